@@ -1,0 +1,88 @@
+use super::*;
+use std::test::*;
+
+// 32 objects load, and 33 are a size outside its limits.
+#[test]
+fn objects() -> Result<(), Fail> {
+    check_eq(answer(one_entry(32), &[0], &[0]), (0, 0))?;
+    check_eq(answer(one_entry(33), &[0], &[0]), (1, 0))
+}
+
+// Two predicates of arity three over 32 objects have 65,536 atoms; one atom more is too many.
+#[test]
+fn atoms() -> Result<(), Fail> {
+    let most = Sizes {
+        predicates: 2,
+        entries: 3,
+        ..one_entry(32)
+    };
+    check_eq(answer(most, &[15, 15, 0], &[3, 3, 0]), (0, 0))?;
+    let more = Sizes {
+        predicates: 3,
+        entries: 4,
+        ..one_entry(32)
+    };
+    check_eq(answer(more, &[15, 15, 15, 0], &[3, 3, 0, 0]), (7, 2))
+}
+
+// An AND of 255 TRUEs loads; that of 256 has a 257th entry.
+#[test]
+fn entries_of_a_formula() -> Result<(), Fail> {
+    let mut kinds = [0; 257];
+    kinds[0] = 5;
+    let mut operands = [0; 257];
+    operands[0] = 255;
+    let most = Sizes {
+        entries: 256,
+        ..one_entry(1)
+    };
+    check_eq(answer(most, &kinds, &operands), (0, 0))?;
+    operands[0] = 256;
+    let more = Sizes {
+        entries: 257,
+        ..one_entry(1)
+    };
+    check_eq(answer(more, &kinds, &operands), (6, 256))
+}
+
+// Each refusal of loading once.
+#[test]
+fn refusals() -> Result<(), Fail> {
+    let two = Sizes {
+        entries: 2,
+        ..one_entry(1)
+    };
+    let typed = Sizes {
+        types: 1,
+        entries: 2,
+        ..one_entry(1)
+    };
+    check_eq(answer(one_entry(0), &[0], &[0]), (1, 0)).note("no objects")?;
+    check_eq(answer(two, &[4], &[0, 0]), (2, 1)).note("kinds end early")?;
+    check_eq(answer(two, &[4, 0], &[0]), (2, 1)).note("operands end early")?;
+    check_eq(answer(one_entry(1), &[10], &[0]), (3, 0)).note("a term is no formula")?;
+    check_eq(answer(two, &[7, 0], &[0, 0]), (4, 2)).note("IMPLY lacks a part")?;
+    check_eq(answer(two, &[0, 0], &[0, 0]), (4, 1)).note("an entry is left over")?;
+    check_eq(answer(one_entry(1), &[0], &[1]), (5, 0)).note("TRUE has operand 0")?;
+    check_eq(answer(typed, &[14, 0], &[2, 0]), (5, 0)).note("a bit for no object")
+}
+
+// The fourth quantifier inside one another is too deep.
+#[test]
+fn quantifiers() -> Result<(), Fail> {
+    let three = Sizes {
+        types: 1,
+        entries: 5,
+        ..one_entry(1)
+    };
+    check_eq(answer(three, &[14, 8, 9, 8, 0], &[1, 0, 0, 0, 0]), (0, 0))?;
+    let four = Sizes {
+        types: 1,
+        entries: 6,
+        ..one_entry(1)
+    };
+    check_eq(
+        answer(four, &[14, 8, 9, 8, 9, 0], &[1, 0, 0, 0, 0, 0]),
+        (6, 4),
+    )
+}

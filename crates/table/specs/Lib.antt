@@ -1,0 +1,4 @@
+pub mod Kinds
+pub mod Permits
+pub mod Powers
+pub mod Reading

@@ -1,0 +1,9 @@
+// Constant tables: the kinds of entries, the kinds that each place permits, and powers.
+pub mod kind;
+pub mod places;
+pub mod powers;
+
+pub use kind::Kind;
+pub use places::Place;
+pub use places::permits;
+pub use powers::power;
