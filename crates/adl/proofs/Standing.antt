@@ -145,9 +145,9 @@ operator-read t i op j e =
     let tys : v .0 ≡ op .parameters = ap (λ (x : tree.Operator). x .parameters) o in
     let pre : u .0 ≡ op .precondition = ap (λ (x : tree.Operator). x .precondition) o in
     let eff : s .0 ≡ op .effect = ap (λ (x : tree.Operator). x .effect) o in
-    let p0 : many (parameter t) k (i + 1) ≡ good (v .0) (v .1) = ap (λ x. many (parameter t) x (i + 1)) (sym n) ∙ ap (λ x. many (parameter t) (w .0 .operand) x) (sym (f .ends)) ∙ v .2 in
-    let z : v .1 ≡ precondition-place t i = singles-end (λ (_ : Unit {0}). parameter t) (λ _ _. tt) (λ _ x a y h. parameter-single t x a y h) k tt (i + 1) (v .0) (v .1) p0 in
-    let p1 : many (parameter t) k (i + 1) ≡ good (op .parameters) (precondition-place t i) = p0 ∙ ap (good (v .0)) z ∙ ap (λ x. good x (precondition-place t i)) tys in
+    let read-first : many (parameter t) k (i + 1) ≡ good (v .0) (v .1) = ap (λ x. many (parameter t) x (i + 1)) (sym n) ∙ ap (λ x. many (parameter t) (w .0 .operand) x) (sym (f .ends)) ∙ v .2 in
+    let z : v .1 ≡ precondition-place t i = singles-end (λ (_ : Unit {0}). parameter t) (λ _ _. tt) (λ _ x a y h. parameter-single t x a y h) k tt (i + 1) (v .0) (v .1) read-first in
+    let read-parameters : many (parameter t) k (i + 1) ≡ good (op .parameters) (precondition-place t i) = read-first ∙ ap (good (v .0)) z ∙ ap (λ x. good x (precondition-place t i)) tys in
     let f0 : formula t most-entries (outermost k (precondition-place t i)) (precondition-place t i) ≡ good (u .0) (u .1) = ap (λ x. formula t most-entries (outermost k x) x) (sym z) ∙ ap (λ x. formula t most-entries (outermost x (v .1)) (v .1)) (sym n) ∙ u .2 in
     let y : effect-place t i ≡ u .1 = ap (λ x. next-place x) f0 in
     let g0 : effect t most-entries (outermost k (effect-place t i)) (effect-place t i) ≡ good (s .0) (s .1) = ap (λ x. effect t most-entries (outermost k x) x) y ∙ ap (λ x. effect t most-entries (outermost x (u .1)) (u .1)) (sym n) ∙ s .2 in
@@ -155,12 +155,12 @@ operator-read t i op j e =
     record {
       inside = f .inside;
       ends = inside-at t (operator t i) op j (inside-operator t i) e;
-      count = sym (series-length (λ (_ : Unit {0}). parameter t) (λ _ _. tt) k tt (i + 1) (op .parameters) (precondition-place t i) p1);
+      count = sym (series-length (λ (_ : Unit {0}). parameter t) (λ _ _. tt) k tt (i + 1) (op .parameters) (precondition-place t i) read-parameters);
       few = omega (arith, ltb-true k 5 r);
-      parameters = p1;
+      parameters = read-parameters;
       precondition = f0 ∙ ap (good (u .0)) (sym y) ∙ ap (λ x. good x (effect-place t i)) pre;
       effect-is = g0 ∙ ap (good (s .0)) l ∙ ap (λ x. good x j) eff;
-      each = λ x h. let b = singles-item (λ (_ : Unit {0}). parameter t) (λ _ _. tt) (λ _ c a d g. parameter-single t c a d g) 0 k tt (i + 1) (op .parameters) (precondition-place t i) p1 x h in parameter-read t (i + 1 + x) (getD (op .parameters) x 0) (i + 1 + x + 1) (b .1);
+      each = λ x h. let b = singles-item (λ (_ : Unit {0}). parameter t) (λ _ _. tt) (λ _ c a d g. parameter-single t c a d g) 0 k tt (i + 1) (op .parameters) (precondition-place t i) read-parameters x h in parameter-read t (i + 1 + x) (getD (op .parameters) x 0) (i + 1 + x + 1) (b .1);
     }
 
 module _ (t : Table) (formed : accepted t ≡ true) where
