@@ -5,11 +5,3 @@ pub mod Views
 pub mod Ends
 pub mod Held
 pub mod Records
-pub mod Standing
-pub mod Shown
-pub mod Effects
-pub mod Windows
-pub mod Names
-pub mod Steps
-pub mod Runs
-pub mod Begins

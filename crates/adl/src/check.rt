@@ -18,7 +18,7 @@ use table::Kind;
 use table::Place;
 
 // The arity of a predicate, or 0 where the table is too short.
-pub(crate) fn arity(table: &TaskTable, predicate: u32) -> u32
+pub fn arity(table: &TaskTable, predicate: u32) -> u32
     ensures { λ r. ⌜ r ≡ arity-of (table-in (now (table .entry))) predicate ⌝ }
 {
     match table

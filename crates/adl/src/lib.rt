@@ -1,28 +1,13 @@
-// Planning tasks in ADL: tables, loading, judging, steps and runs.
-mod around;
+// Planning tasks in ADL: their tables, and loading them.
+pub mod around;
 mod check;
 mod declare;
-mod facts;
-mod fitting;
-mod goal;
 mod head;
-mod judge;
-mod literal;
-mod name;
-mod numbering;
-mod run;
-mod sheet;
-mod sink;
-mod sizes;
-mod skip;
-mod skip_effect;
-mod step;
-mod table;
-mod task;
-mod walk;
-mod window;
+pub mod sizes;
+pub mod table;
+pub mod task;
 
-pub use name::Name;
-pub use run::TaskRun;
+pub use check::arity;
 pub use sizes::Sizes;
+pub use table::TaskTable;
 pub use task::Task;

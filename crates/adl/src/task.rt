@@ -10,14 +10,14 @@ use crate::table::TaskTable;
 
 #[derive(Clone, Copy)]
 pub struct Task<'a> {
-    pub(crate) table: TaskTable<'a>,
+    pub table: TaskTable<'a>,
     // how many atoms the task has
-    pub(crate) atoms: u32,
+    pub atoms: u32,
     // where the goal begins
-    pub(crate) goal_at: usize,
+    pub goal_at: usize,
     // where each operator begins, and its effect
-    pub(crate) operator_at: [usize; 32],
-    pub(crate) effect_at: [usize; 32],
+    pub operator_at: [usize; 32],
+    pub effect_at: [usize; 32],
     ghost formed: { accepted (table-in table) ≡ true },
     ghost counted: { atoms ≡ atoms-in (task-of (table-in table)) },
     ghost goal: { «goal_at» ≡ goal-place (table-in table) },

@@ -1,0 +1,15 @@
+pub mod Shapes
+pub mod Counting
+pub mod Sheets
+pub mod Junctions
+pub mod EffectShapes
+pub mod Walks
+pub mod Sinks
+pub mod Beginning
+pub mod Performing
+pub mod Bounds
+pub mod Membership
+pub mod Fittings
+pub mod Puts
+pub mod FactPuts
+pub mod Turns

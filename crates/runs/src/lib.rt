@@ -1,0 +1,19 @@
+// Runs of planning tasks: judging formulas, taking steps, the calls of a run.
+mod facts;
+mod fitting;
+mod goal;
+mod judge;
+mod literal;
+mod name;
+mod numbering;
+mod run;
+mod sheet;
+mod sink;
+mod skip;
+mod skip_effect;
+mod step;
+mod walk;
+mod window;
+
+pub use name::Name;
+pub use run::TaskRun;
