@@ -13,10 +13,10 @@ use Rattle.std.proofs.shelf.Tests.{ltb-true, eqb-true, and-parts}
 use Rattle.table.specs.declared.places.Place.the-variants as place
 use Rattle.table.specs.Reading.{Entry, entry, Out, bad, good, then, many}
 use Rattle.model.specs.Forming.{Each, Within, Known-effect}
-use Rattle.model.specs.Lists.{below, keep, gather}
+use Rattle.model.specs.Lists.{In, below, keep, gather}
 use Rattle.model.specs.Meaning.{State, Literal, Part, value, bind, ground, parts, all-parts}
 use Rattle.model.specs.Trees.{Task, Term, Formula, constant, atom, equal, negation, junction, implication, quantifier, Change, Consequent, outcome, outcomes, outcomes-of, all-outcomes, Effect, change, conjunction, for-each, when, in-set, members, atoms}
-use Rattle.model.proofs.Members.{In, gather-out}
+use Rattle.model.proofs.Members.{gather-out}
 use Rattle.model.proofs.Numbers.{effect-known}
 use Rattle.adl.specs.Tables.{Table, Around, entry-at, arity, most-entries, deeper, within-bounds, head}
 use Rattle.adl.specs.Reads.{term, terms, junction-of, formulas-of, formula-by, formula, changed-atom, change-by, consequents-of, consequent-by, consequent, effects-of, effect-by, effect}

@@ -6,11 +6,11 @@ use mathlib.Core.List.{List, [], _∷_}
 use Prim.Native.Nat.{ℕ, _<_}
 use native.Mathlib.Omega.{arith}
 use lib.ListN.{getD}
-use Rattle.model.specs.Lists.{below}
+use Rattle.model.specs.Lists.{In, below}
 use Rattle.model.specs.Trees as tree
 use Rattle.model.specs.Trees.{Formula, negation, implication, in-set, members}
 use Rattle.model.specs.Meaning.{State, join, over, value, values}
-use Rattle.model.proofs.Members.{In, in-keep, keep-out, in-below, below-out}
+use Rattle.model.proofs.Members.{in-keep, keep-out, in-below, below-out}
 use Rattle.adl.specs.Tables.{Table}
 use Rattle.adl.specs.Loads.{accepted, task-of}
 use Rattle.adl.specs.Reads.{formulas-of}

@@ -13,3 +13,4 @@ pub mod Fittings
 pub mod Puts
 pub mod FactPuts
 pub mod Turns
+pub mod Played

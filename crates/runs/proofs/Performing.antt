@@ -15,7 +15,8 @@ use Rattle.std.proofs.shelf.Tests.{ltb-true, ltb-false, lt-ltb, cond-true, and-
 use Rattle.model.specs.Trees.{Formula, Effect, change, conjunction, for-each, when, Effects, no-effect, and, Operator, Task, Name, atoms, members}
 use Rattle.model.specs.Forming.{Each, Within, Known-formula, Known-effect, Known-effects, Known-operator, Well-formed}
 use Rattle.model.specs.Meaning.{State, bind, value, nothing, operator-of, fits, Literal, Part, parts, all-parts, literals-where, changes, changed, precondition-of, effect-of}
-use Rattle.model.proofs.Members.{In, in-append, gather-out, member-below, suits-typed}
+use Rattle.model.specs.Lists.{In}
+use Rattle.model.proofs.Members.{in-append, gather-out, member-below, suits-typed}
 use Rattle.model.proofs.Numbers.{typed-within, within-bind}
 use Rattle.model.proofs.Reaching.{literals-part, effect-of-known}
 use Rattle.model.proofs.Within.{values-rest}

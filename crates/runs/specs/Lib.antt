@@ -6,3 +6,5 @@ pub mod Names
 pub mod Steps
 pub mod Runs
 pub mod Begins
+pub mod Plays
+pub mod Playing

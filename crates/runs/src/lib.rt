@@ -1,4 +1,5 @@
 // Runs of planning tasks: judging formulas, taking steps, the calls of a run.
+mod calls;
 mod facts;
 mod fitting;
 mod goal;
@@ -15,5 +16,8 @@ mod step;
 mod walk;
 mod window;
 
+pub use calls::Answer;
+pub use calls::Call;
 pub use name::Name;
 pub use run::TaskRun;
+pub use run::play::play;

@@ -7,3 +7,4 @@ pub struct TaskRun<'t, 'a> {
 }
 
 pub mod calls;
+pub mod play;
