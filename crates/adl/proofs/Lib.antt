@@ -8,4 +8,11 @@ pub mod Whole
 pub mod Inside
 pub mod Standing
 pub mod Inverting
+pub mod Entries
 pub mod WellFormed
+pub mod Written
+pub mod Trees
+pub mod Complete
+pub mod Stretches
+pub mod Spelling
+pub mod Sound

@@ -5,3 +5,5 @@ pub mod Views
 pub mod Ends
 pub mod Held
 pub mod Records
+pub mod Writes
+pub mod Theorems

@@ -21,7 +21,7 @@ use Rattle.model.proofs.Numbers.{effect-known}
 use Rattle.adl.specs.Tables.{Table, Around, entry-at, arity, most-entries, deeper, within-bounds, head}
 use Rattle.adl.specs.Reads.{term, terms, junction-of, formulas-of, formula-by, formula, changed-atom, change-by, consequents-of, consequent-by, consequent, effects-of, effect-by, effect}
 use Rattle.runs.specs.Effects.{consequent-literals, effect-literals, effects-literals, Effect-at}
-use Rattle.runs.proofs.Shapes.{never, then-good, last, Headed, on-from, none-read, first-read, goes-on}
+use Rattle.adl.proofs.Entries.{never, then-good, last, Headed, on-from, none-read, first-read, goes-on}
 use Rattle.adl.proofs.Inside.{inside-at, inside-effect}
 use Rattle.runs.proofs.EffectShapes.{read-as, consequent-goes-on, effect-goes-on}
 use Rattle.runs.proofs.Walks.{gather-append, gather-gather}

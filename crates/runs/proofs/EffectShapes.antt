@@ -17,7 +17,8 @@ use Rattle.adl.specs.Tables.{Table, Around, entry-at, arity, most-entries, deep
 use Rattle.adl.specs.Reads.{term, terms, formula, changed-atom, change-by, consequents-of, consequent-by, consequent, effects-of, effect-by, effect}
 use Rattle.runs.specs.Standing.{Terms-at, Formula-at}
 use Rattle.runs.specs.Effects.{Change-at, Consequent-at, Consequents-at, Effect-at, Effects-at}
-use Rattle.runs.proofs.Shapes.{never, then-good, last, Headed, on-from, none-read, first-read, items-go-on, term-goes-on, goes-on, after-terms}
+use Rattle.adl.proofs.Entries.{never, then-good, last, Headed, on-from, none-read, first-read, items-go-on, term-goes-on, goes-on}
+use Rattle.runs.proofs.Shapes.{after-terms}
 
 -- Kinds.
 
