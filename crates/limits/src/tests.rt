@@ -1,5 +1,9 @@
 use super::*;
 use std::test::*;
+use store::Bits;
+use store::BitsStore;
+use store::ListStore;
+use store::ListStoreStore;
 
 // 32 objects load, and 33 are a size outside its limits.
 #[test]
@@ -85,4 +89,23 @@ fn quantifiers() -> Result<(), Fail> {
         answer(four, &[14, 8, 9, 8, 9, 0], &[1, 0, 0, 0, 0, 0]),
         (6, 4),
     )
+}
+
+// Packed bits and the rising list hold the same after the same puts: 0, 1, 3, 8, 15 and 16; two puts are refused.
+#[test]
+fn both_stores() -> Result<(), Fail> {
+    let mut bytes = [0; 3];
+    let mut bits = Bits::over(&mut bytes);
+    let (in_bits, refused_by_bits) = driven(&mut bits);
+    let mut slots = [7; 24];
+    let mut list = ListStore::over(&mut slots);
+    let (in_list, refused_by_list) = driven(&mut list);
+    let mut wanted = [false; FACTS];
+    for k in [0, 1, 3, 8, 15, 16] {
+        wanted[k] = true;
+    }
+    check_eq(in_bits, wanted)?;
+    check_eq(in_list, wanted)?;
+    check_eq(refused_by_bits, 2)?;
+    check_eq(refused_by_list, 2)
 }

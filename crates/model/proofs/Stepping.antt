@@ -39,7 +39,7 @@ module _ (t : Task) (m : Name) (s : State) where
   brings-in b k h =
       any-in (λ l. Bool·beq b (l .adds) && eqb k (l .atom)) (record { adds = b; atom = k }) all-brought
       (in-gather brought (h .part) (record { adds = b; atom = k }) (effect-of t m) (h .in-effect)
-        (in-true (value t s (h .part .sheet) (h .part .condition)) (record { adds = b; atom = k }) (h .part .literals) (h .true-before) (h .literal)))
+      (in-true (value t s (h .part .sheet) (h .part .condition)) (record { adds = b; atom = k }) (h .part .literals) (h .true-before) (h .literal)))
       (and-from _ _ (beq-refl b) (eq-eqb k k refl))
 
   brings-out : (b : Bool) (k : ℕ) → changes b k all-brought ≡ true → Brings-about t m s b k

@@ -10,7 +10,7 @@ use Rattle.std.proofs.shelf.Tests.{cond-true, cond-false}
 use Rattle.std.proofs.shelf.Lists.{map-more, take-all, take-append-drop, length-take, length-drop}
 use Rattle.store.specs.Sets.{after-put}
 use Rattle.model.specs.Meaning.{State, Literal}
-use Rattle.runs.specs.declared.literal.Literal as code
+use Rattle.store.specs.declared.literal.Literal as code
 use Rattle.runs.specs.Effects.{meant}
 use Rattle.runs.specs.Steps.{put-literals, put-step}
 

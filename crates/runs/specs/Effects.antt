@@ -10,7 +10,7 @@ use Rattle.model.specs.Meaning.{State, Literal, value, ground, parts, all-parts
 use Rattle.model.specs.Trees.{Task, Change, Consequent, outcomes-of, all-outcomes, Effect}
 use Rattle.adl.specs.Tables.{Table, Around, head}
 use Rattle.adl.specs.Reads.{change-by, consequent, consequents-of, effect, effects-of}
-use Rattle.runs.specs.declared.literal.Literal as code
+use Rattle.store.specs.declared.literal.Literal as code
 
 -- the literal that the code's literal means
 abbrev pub meant : code.Literal → Literal

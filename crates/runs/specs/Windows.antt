@@ -6,7 +6,7 @@ use lib.Dec.{eqb, ltb, leb}
 use lib.ListN.{set, take}
 use Rattle.model.specs.Meaning.{Literal}
 use Rattle.runs.specs.Effects.{meant}
-use Rattle.runs.specs.declared.literal.Literal as code
+use Rattle.store.specs.declared.literal.Literal as code
 use Rattle.runs.specs.declared.window.Window.{Window}
 
 -- it takes no more literals

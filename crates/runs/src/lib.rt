@@ -4,7 +4,6 @@ mod facts;
 mod fitting;
 mod goal;
 mod judge;
-mod literal;
 mod name;
 mod numbering;
 mod run;

@@ -12,7 +12,6 @@ ghost use Rattle.runs.specs.Effects.{Change-at, Consequent-at, Consequents-at,
 ghost use Rattle.runs.specs.Shown.{shown, bound};
 ghost use Rattle.adl.specs.Held.{held, tree-of};
 use crate::judge::judge;
-use crate::literal::Literal;
 use crate::numbering::atom_number;
 use crate::numbering::kind_at;
 use crate::sheet::Bound;
@@ -22,6 +21,7 @@ use crate::skip_effect::skip_consequent;
 use crate::skip_effect::skip_effect;
 use adl::Task;
 use adl::arity;
+use store::Literal;
 use table::Kind;
 
 // The literal of the atom at place `at`, plain or under NOT, and the place after it.

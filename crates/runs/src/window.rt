@@ -9,11 +9,11 @@ ghost use Rattle.runs.specs.Effects.{Effect-at, effect-literals};
 ghost use Rattle.runs.specs.Shown.{shown, bound};
 ghost use Rattle.adl.specs.Held.{held, tree-of};
 ghost use Rattle.runs.specs.Windows.{offered, packed, kept};
-use crate::literal::Literal;
 use crate::sheet::Sheet;
 use crate::sink::Sink;
 use crate::walk::walk;
 use adl::Task;
+use store::Literal;
 
 // Up to 64 literals; `skip` is how many are still to be passed over.
 #[derive(Clone, Copy)]
