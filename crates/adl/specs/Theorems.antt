@@ -8,7 +8,9 @@ use Rattle.model.specs.Forming.{Well-formed}
 use Rattle.model.specs.Trees.{Task}
 use Rattle.adl.specs.Loads.{loads, given, task-of}
 use Rattle.adl.specs.Writes.{Writes, Within-limits}
+use Rattle.adl.specs.Held.{tree-of}
 use Rattle.adl.specs.declared.sizes.Sizes.{Sizes}
+use Rattle.adl.specs.declared.task.Task.{Task as Record}
 
 -- every well-formed task within the limits, written out in arrays that are long enough, loads, and it is that task that stands there
 abbrev pub What-is-written-loads : Type 0
@@ -26,3 +28,7 @@ pub record Was-written (z : Sizes) (ks os : List ℕ) : Type 0 where
 
 abbrev pub What-loads-was-written : Type 0
 What-loads-was-written = (z : Sizes) (ks os : List ℕ) → loads z ks os ≡ Ok tt → Was-written z ks os
+
+-- a record that exists holds a well-formed task
+abbrev pub Records-hold-well-formed-tasks : Type 0
+Records-hold-well-formed-tasks = (r : Record) → Well-formed (tree-of r)

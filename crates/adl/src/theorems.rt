@@ -1,5 +1,5 @@
 // Theorems on loading: each function's contract names one.
-ghost use Rattle.adl.specs.Theorems.{What-is-written-loads, What-loads-was-written};
+ghost use Rattle.adl.specs.Theorems.{What-is-written-loads, What-loads-was-written, Records-hold-well-formed-tasks};
 
 pub fn what_is_written_loads() -> u8
     ensures { λ _. ⌜ What-is-written-loads ⌝ }
@@ -9,6 +9,12 @@ pub fn what_is_written_loads() -> u8
 
 pub fn what_loads_was_written() -> u8
     ensures { λ _. ⌜ What-loads-was-written ⌝ }
+{
+    0
+}
+
+pub fn records_hold_well_formed_tasks() -> u8
+    ensures { λ _. ⌜ Records-hold-well-formed-tasks ⌝ }
 {
     0
 }

@@ -7,9 +7,8 @@ use middleware::LOCK;
 use middleware::MUTEX;
 use middleware::PUBLISHER;
 use middleware::SIZES;
+use middleware::TABLE;
 use middleware::UNLOCK;
-use middleware::kinds;
-use middleware::operands;
 use runs::Name;
 use runs::TaskRun;
 use std::env;
@@ -20,6 +19,8 @@ use std::time::Instant;
 use store::Bits;
 use store::BitsStore;
 use store::copy;
+use table::kinds_of;
+use table::operands_of;
 
 // How often the names are performed.
 const ROUNDS: u32 = 20000;
@@ -98,8 +99,8 @@ fn load_and_measure<'a>(
 }
 
 fn measure_both(rt: &(impl Clock + Print)) -> io::Result<()> {
-    let kinds = kinds();
-    let operands = operands();
+    let kinds = kinds_of(&TABLE);
+    let operands = operands_of(&TABLE);
     load_and_measure(rt, "the scenario", SIZES, &kinds, &operands, &LOCKING)?;
     load_and_measure(
         rt,

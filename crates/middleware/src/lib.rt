@@ -69,7 +69,7 @@ pub const SIZES: Sizes = Sizes {
     entries: 92,
 };
 
-const TABLE: [(Kind, u32); ENTRIES] = [
+pub const TABLE: [(Kind, u32); ENTRIES] = [
     // types
     (Kind::TypeSet, 0b00001),
     (Kind::TypeSet, 0b00010),
@@ -172,29 +172,3 @@ const TABLE: [(Kind, u32); ENTRIES] = [
     (Kind::Atom, SHOWN),
     (Kind::Variable, 2),
 ];
-
-fn kinds_in(table: &[(Kind, u32); ENTRIES]) -> [u8; ENTRIES] {
-    let mut kinds = [0; ENTRIES];
-    for i in 0..ENTRIES {
-        kinds[i] = table[i].0.code();
-    }
-    kinds
-}
-
-fn operands_in(table: &[(Kind, u32); ENTRIES]) -> [u32; ENTRIES] {
-    let mut operands = [0; ENTRIES];
-    for i in 0..ENTRIES {
-        operands[i] = table[i].1;
-    }
-    operands
-}
-
-// The kinds of the table.
-pub fn kinds() -> [u8; ENTRIES] {
-    kinds_in(&TABLE)
-}
-
-// The operands of the table.
-pub fn operands() -> [u32; ENTRIES] {
-    operands_in(&TABLE)
-}

@@ -110,7 +110,8 @@ impl<'t, 'a> TaskRun<'t, 'a> {
         ensures { λ r. ⌜ record { image = now (image .exit); answer = r } ≡ goal-by-image (tree-of (now (now (self .entry) .task))) (S·Store .extent (now (store .entry))) (S·Store .facts (now (store .entry))) (now (image .entry)) ⌝ }
     {
         let task = self.task;
-        copy(store, image, task.atoms)?;
+        let atoms = task.atoms;
+        copy(store, image, atoms)?;
         Ok(judge_goal(task, image))
     }
 
