@@ -10,6 +10,7 @@ pub loop-i-holds : need.loop-i-holds
 loop-i-holds g c = (length-replicate (g .N) 0, λ k l. let z : ⊥ = omega arith in absurd z)
 
 pub loop-i-again : need.loop-i-again
-loop-i-again g c =
-    (length-set _ _ _ ∙ c .loop-i .inv .0,
-     one-more-filled (c .loop-i .kinds) (c .loop-i .i) _ (λ k. code-of (getD (c .args .entries .now) k (True, 0) .0)) (omega (arith, c .loop-i .inv .0)) (c .loop-i .inv .1) (c .code .ensures))
+loop-i-again g c = (
+  length-set _ _ _ ∙ c .loop-i .inv .0,
+  one-more-filled (c .loop-i .kinds) (c .loop-i .i) _ (λ k. code-of (getD (c .args .entries .now) k (True, 0) .0)) (omega (arith, c .loop-i .inv .0)) (c .loop-i .inv .1) (c .code .ensures),
+)
