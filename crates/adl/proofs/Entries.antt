@@ -14,21 +14,9 @@ use Rattle.table.specs.Permits.{permitted}
 use Rattle.table.specs.Reading.{Entry, entry, Out, bad, good, then, unless, many}
 use Rattle.model.specs.Trees.{Term, object, variable, all, any, Formula, constant, atom, equal, negation, junction, implication, quantifier}
 use Rattle.adl.specs.Tables.{Table, Around, entry-at, arity, deeper, within-bounds, in-range, head}
+use Rattle.adl.proofs.Reading.{bad-is-not-good, first-step}
+use Rattle.adl.proofs.Heads.{found}
 use Rattle.adl.specs.Reads.{term-of, term, terms, junction-of, formulas-of, formula-by, formula}
-
--- a fault is nothing good
-pub never : {A P : Type 0} (n p : ℕ) (x : A) (j : ℕ) → bad n p ≡ good x j → P
-never n p x j e = let z : _≡_ {A = ℕ} 0 1 = cc in let w : ⊥ = omega arith in absurd w
-
--- what was read well has a first step that was read well
-pub then-good : {A B : Type 0} (o : Out A) (g : A → ℕ → Out B) (b : B) (l : ℕ) → then o g ≡ good b l → (a : A) × (j : ℕ) × (o ≡ good a j) × (g a j ≡ good b l)
-then-good (bad n p) g b l e = never n p b l e
-then-good (good a j) g b l e = (a, j, refl, e)
-
--- the test before something that was read well has passed
-pub unless-good : {A : Type 0} (c : Bool) (n i : ℕ) (o : Out A) (b : A) (l : ℕ) → unless c n i o ≡ good b l → (c ≡ true) × (o ≡ good b l)
-unless-good true n i o b l e = (refl, e)
-unless-good false n i o b l e = never n i b l e
 
 -- the place after what was read
 pub last : {A : Type 0} (x y : A) (k l : ℕ) → good x k ≡ good y l → k ≡ l
@@ -44,20 +32,14 @@ pub record Headed (t : Table) (p : Place) (a : Around) (i : ℕ) : Type 0 where
 -- the entry that was read is the one that stands there
 pub headed : (t : Table) (p : Place) (a : Around) (i : ℕ) (e : Entry) (j : ℕ) → head t p a i ≡ good e j → Headed t p a i × (e ≡ entry-at t i) × (j ≡ i + 1)
 headed t p a i e j h =
-    let x = unless-good (ltb i (t .entries)) 4 i _ e j h in
-    let y = unless-good (permitted p (getD (t .kinds) i 0)) 3 i _ e j (x .1) in
-    let z = unless-good (within-bounds a i (entry-at t i)) 6 i _ e j (y .1) in
-    let w = unless-good (in-range t a (entry-at t i)) 5 i _ e j (z .1) in
-    let q : good (entry-at t i) (i + 1) ≡ good e j = w .1 in
-    let p : entry-at t i ≡ e = cc in
-    let r : i + 1 ≡ j = cc in
-    (record { inside = ltb-true _ _ (x .0); permits = y .0; bounded = z .0; ranged = w .0 }, sym p, sym r)
+    let f = found t p a i e j h in
+    (record { inside = f .inside; permits = f .allowed; bounded = f .bounded; ranged = f .ranged }, f .is, f .ends)
 
 -- a reading goes on from its first entry
 pub on-from : {B : Type 0} (t : Table) (p : Place) (a : Around) (i : ℕ) (g : Entry → ℕ → Out B) (b : B) (l : ℕ) → then (head t p a i) g ≡ good b l
     → Headed t p a i × (g (entry-at t i) (i + 1) ≡ good b l)
 on-from t p a i g b l e =
-    let w = then-good (head t p a i) g b l e in
+    let w = first-step (head t p a i) g b l e in
     let h = headed t p a i (w .0) (w .1) (w .2) in
     (h .0, ap (λ n. g (entry-at t i) n) (sym (h .2)) ∙ ap (λ x. g x (w .1)) (sym (h .1)) ∙ w .3)
 
@@ -84,8 +66,8 @@ none-read {A} read m i xs j h e =
 pub first-read : {A : Type 0} (read : ℕ → Out A) (m i : ℕ) (xs : List A) (j : ℕ) → many read (suc m) i ≡ good xs j
     → (x : A) × (k : ℕ) × (ys : List A) × (read i ≡ good x k) × (many read m k ≡ good ys j) × (xs ≡ x ∷ ys)
 first-read read m i xs j e =
-    let w = then-good (read i) (λ x k. then (many read m k) λ rest l. good (x ∷ rest) l) xs j e in
-    let v = then-good (many read m (w .1)) (λ rest l. good (w .0 ∷ rest) l) xs j (w .3) in
+    let w = first-step (read i) (λ x k. then (many read m k) λ rest l. good (x ∷ rest) l) xs j e in
+    let v = first-step (many read m (w .1)) (λ rest l. good (w .0 ∷ rest) l) xs j (w .3) in
     let q : good (w .0 ∷ v .0) (v .1) ≡ good xs j = v .3 in
     let p : w .0 ∷ v .0 ≡ xs = cc in
     let r : v .1 ≡ j = cc in
@@ -116,31 +98,31 @@ parts-go-on t read h a e j f l q = by-kind (eqb (e .kind) 2) (eqb (e .kind) 3) (
         (cond is-quantifier (then (read (deeper a) j) λ f k. good (quantifier (junction-of (e .kind)) (e .operand) f) k)
         (good (constant (eqb (e .kind) 0)) j)))))) ≡ good f l → j ≤ l
     by-kind true is-equal is-not is-list is-imply is-quantifier x =
-        let w = then-good (terms t a (e .operand) j) (λ ts k. good (atom (e .operand) ts) k) f l x in
+        let w = first-step (terms t a (e .operand) j) (λ ts k. good (atom (e .operand) ts) k) f l x in
         omega (arith, items-go-on (term t a) (term-goes-on t a) (arity t (e .operand)) j (w .0) (w .1) (w .2), last (atom (e .operand) (w .0)) f (w .1) l (w .3))
     by-kind false true is-not is-list is-imply is-quantifier x =
-        let w = then-good (term t a j) (λ x k. then (term t a k) λ y l. good (equal x y) l) f l x in
-        let u = then-good (term t a (w .1)) (λ y l. good (equal (w .0) y) l) f l (w .3) in
+        let w = first-step (term t a j) (λ x k. then (term t a k) λ y l. good (equal x y) l) f l x in
+        let u = first-step (term t a (w .1)) (λ y l. good (equal (w .0) y) l) f l (w .3) in
         omega (arith, term-goes-on t a j (w .0) (w .1) (w .2), term-goes-on t a (w .1) (u .0) (u .1) (u .2), last (equal (w .0) (u .0)) f (u .1) l (u .3))
     by-kind false false true is-list is-imply is-quantifier x =
-        let w = then-good (read a j) (λ g k. good (negation g) k) f l x in
+        let w = first-step (read a j) (λ g k. good (negation g) k) f l x in
         omega (arith, h a j (w .0) (w .1) (w .2), last (negation (w .0)) f (w .1) l (w .3))
     by-kind false false false true is-imply is-quantifier x =
-        let w = then-good (many (read a) (e .operand) j) (λ fs k. good (junction (junction-of (e .kind)) (formulas-of fs)) k) f l x in
+        let w = first-step (many (read a) (e .operand) j) (λ fs k. good (junction (junction-of (e .kind)) (formulas-of fs)) k) f l x in
         omega (arith, items-go-on (read a) (h a) (e .operand) j (w .0) (w .1) (w .2), last (junction (junction-of (e .kind)) (formulas-of (w .0))) f (w .1) l (w .3))
     by-kind false false false false true is-quantifier x =
-        let w = then-good (read a j) (λ g k. then (read a k) λ o m. good (implication g o) m) f l x in
-        let u = then-good (read a (w .1)) (λ o m. good (implication (w .0) o) m) f l (w .3) in
+        let w = first-step (read a j) (λ g k. then (read a k) λ o m. good (implication g o) m) f l x in
+        let u = first-step (read a (w .1)) (λ o m. good (implication (w .0) o) m) f l (w .3) in
         omega (arith, h a j (w .0) (w .1) (w .2), h a (w .1) (u .0) (u .1) (u .2), last (implication (w .0) (u .0)) f (u .1) l (u .3))
     by-kind false false false false false true x =
-        let w = then-good (read (deeper a) j) (λ g k. good (quantifier (junction-of (e .kind)) (e .operand) g) k) f l x in
+        let w = first-step (read (deeper a) j) (λ g k. good (quantifier (junction-of (e .kind)) (e .operand) g) k) f l x in
         omega (arith, h (deeper a) j (w .0) (w .1) (w .2), last (quantifier (junction-of (e .kind)) (e .operand) (w .0)) f (w .1) l (w .3))
     by-kind false false false false false false x = omega (arith, last (constant (eqb (e .kind) 0)) f j l x)
 
 -- a formula has at least one entry
 pub goes-on : (t : Table) (room : ℕ) (a : Around) (i : ℕ) (f : Formula) (j : ℕ) → formula t room a i ≡ good f j → i < j
 unfolding formula
-goes-on t zero a i f j e = let w = on-from t place.Formula a i (λ e j. bad 6 i) f j e in never 6 i f j (w .1)
+goes-on t zero a i f j e = let w = on-from t place.Formula a i (λ e j. bad 6 i) f j e in bad-is-not-good 6 i f j (w .1)
 goes-on t (suc r) a i f j e =
     let w = on-from t place.Formula a i (λ e k. formula-by t (formula t r) a e k) f j e in
     omega (arith, parts-go-on t (formula t r) (goes-on t r) a (entry-at t i) (i + 1) f j (w .1))

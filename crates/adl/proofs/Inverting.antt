@@ -10,11 +10,7 @@ use Rattle.table.specs.declared.places.Place.{Place}
 use Rattle.table.specs.Permits.{permitted}
 use Rattle.table.specs.Reading.{Entry, Out, bad, good, then, unless, series, many}
 use Rattle.model.specs.Forming.{Each}
-use Rattle.adl.specs.Tables.{Table, Around, entry-at, within-bounds, in-range, head}
-
--- a fault is no reading that went well
-pub bad-is-not-good : {A P : Type 0} (n p : ℕ) (x : A) (j : ℕ) → bad n p ≡ good x j → P
-bad-is-not-good n p x j e = let z : _≡_ {A = ℕ} 0 1 = cc in let w : ⊥ = omega arith in absurd w
+use Rattle.adl.proofs.Reading.{bad-is-not-good}
 
 -- what is known of one of two equal readings is known of the other
 pub same-reading : {A : Type 0} (P : A → Type 0) (x y : A) (j k : ℕ) → good x j ≡ good y k → P x → P y
@@ -29,33 +25,10 @@ read-on (good a j) g b l e h = h a j refl e
 pub made-of : {A B : Type 0} (P : B → Type 0) (o : Out A) (f : A → B) (b : B) (l : ℕ) → then o (λ a k. good (f a) k) ≡ good b l → ((a : A) (j : ℕ) → o ≡ good a j → P (f a)) → P b
 made-of P o f b l e h = read-on o (λ a k. good (f a) k) b l e (λ a j r q. same-reading P (f a) b j l q (h a j r))
 
--- the test was passed
-pub was-passed : {A : Type 0} (c : Bool) (n i : ℕ) (o : Out A) (b : A) (l : ℕ) → unless c n i o ≡ good b l → (c ≡ true) × (o ≡ good b l)
-was-passed true n i o b l e = (refl, e)
-was-passed false n i o b l e = bad-is-not-good n i b l e
-
 -- a choice came out one way or the other
 pub by-test : {A P : Type 0} (b : Bool) (x y z : A) → cond b x y ≡ z → (b ≡ true → x ≡ z → P) → (b ≡ false → y ≡ z → P) → P
 by-test true x y z e f g = f refl e
 by-test false x y z e f g = g refl e
-
--- what is known of an entry that was read at its place
-pub record Headed (t : Table) (p : Place) (a : Around) (i : ℕ) : Type 0 where
-  pub permits : permitted p (getD (t .kinds) i 0) ≡ true
-  pub ranged : in-range t a (entry-at t i) ≡ true
-
--- a reading goes on from its first entry
-pub headed : {B : Type 0} (t : Table) (p : Place) (a : Around) (i : ℕ) (g : Entry → ℕ → Out B) (b : B) (l : ℕ) → then (head t p a i) g ≡ good b l
-    → Headed t p a i × (g (entry-at t i) (i + 1) ≡ good b l)
-headed t p a i g b l h = read-on (head t p a i) g b l h λ e j r q.
-    let w = was-passed (ltb i (t .entries)) 4 i _ e j r in
-    let x = was-passed (permitted p (getD (t .kinds) i 0)) 3 i _ e j (w .1) in
-    let y = was-passed (within-bounds a i (entry-at t i)) 6 i _ e j (x .1) in
-    let z = was-passed (in-range t a (entry-at t i)) 5 i _ e j (y .1) in
-    let s : good (entry-at t i) (i + 1) ≡ good e j = z .1 in
-    let u : entry-at t i ≡ e = cc in
-    let v : i + 1 ≡ j = cc in
-    (record { permits = x .0; ranged = z .0 }, ap (λ n. g (entry-at t i) n) v ∙ ap (λ x. g x j) u ∙ q)
 
 -- a series was read item after item: the first, and then the others
 pub series-opens : {A S P : Type 0} (read : S → ℕ → Out A) (next : S → A → S) (m : ℕ) (s : S) (i : ℕ) (xs : List A) (k : ℕ) → series read next (suc m) s i ≡ good xs k

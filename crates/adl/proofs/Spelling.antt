@@ -22,7 +22,8 @@ use Rattle.adl.specs.Tables.{Table, Around, entry-at, arity, most-entries, out
 use Rattle.adl.specs.Reads.{term-of, term, terms, junction-of, formulas-of, consequents-of, effects-of, formula-by, formula, changed-atom, change-by, consequent-by, consequent, effect-by, effect, type-set, most-atoms, with-atoms, predicate, fact, parameter, operator, precondition-place, effect-place}
 use Rattle.adl.specs.Writes.{write-term, count-formulas, count-consequents, count-effects, junction-code, quantifier-code, write-formula, write-formulas, write-change, write-consequent, write-consequents, write-effect, write-effects, write-fact, write-operator, nesting, nesting-all, effect-nesting, effects-nesting, Small-operator}
 use Rattle.adl.proofs.Inverting.{read-on, by-test, many-each}
-use Rattle.adl.proofs.Entries.{never, Headed, on-from, term-read}
+use Rattle.adl.proofs.Entries.{Headed, on-from, term-read}
+use Rattle.adl.proofs.Reading.{bad-is-not-good}
 use Rattle.adl.proofs.Standing.{operator-read}
 use Rattle.adl.proofs.Heads.{operand-read}
 use Rattle.adl.proofs.Declared.{predicate-read}
@@ -225,7 +226,7 @@ module _ (t : Table) where
   -- a formula is written where it is read
   pub formula-spelled : (room : ℕ) (a : Around) (i : ℕ) (f : Formula) (j : ℕ) → formula t room a i ≡ good f j → Formula-spelled t a f i j
   unfolding formula
-  formula-spelled zero a i f j e = let w = on-from t place.Formula a i (λ e j. bad 6 i) f j e in never 6 i f j (w .1)
+  formula-spelled zero a i f j e = let w = on-from t place.Formula a i (λ e j. bad 6 i) f j e in bad-is-not-good 6 i f j (w .1)
   formula-spelled (suc room) a i f j e =
       let w = on-from t place.Formula a i (λ e k. formula-by t (formula t room) a e k) f j e in
       formula-by-spelled t (formula t room) (formula-spelled room) a i (w .0) f j (w .1)
@@ -259,7 +260,7 @@ module _ (t : Table) where
   -- a consequent is written where it is read
   consequent-spelled : (room : ℕ) (a : Around) (i : ℕ) (c : Consequent) (j : ℕ) → consequent t room a i ≡ good c j → Spells t (limit a) (write-consequent c) i j
   unfolding consequent
-  consequent-spelled zero a i c j e = let w = on-from t place.Consequent a i (λ e j. bad 6 i) c j e in never 6 i c j (w .1)
+  consequent-spelled zero a i c j e = let w = on-from t place.Consequent a i (λ e j. bad 6 i) c j e in bad-is-not-good 6 i c j (w .1)
   consequent-spelled (suc room) a i c j e =
       let w = on-from t place.Consequent a i (λ e j. consequent-by t (consequent t room a) a e j) c j e in
       let k = kind-at t i in
@@ -353,7 +354,7 @@ module _ (t : Table) where
   -- an effect is written where it is read
   pub effect-spelled : (room : ℕ) (a : Around) (i : ℕ) (e : Effect) (j : ℕ) → effect t room a i ≡ good e j → Effect-spelled t a e i j
   unfolding effect
-  effect-spelled zero a i e j h = let w = on-from t place.Effect a i (λ e j. bad 6 i) e j h in never 6 i e j (w .1)
+  effect-spelled zero a i e j h = let w = on-from t place.Effect a i (λ e j. bad 6 i) e j h in bad-is-not-good 6 i e j (w .1)
   effect-spelled (suc room) a i e j h =
       let w = on-from t place.Effect a i (λ e k. effect-by t (effect t room) a e k) e j h in
       effect-by-spelled t (effect t room) (effect-spelled room) a i (w .0) e j (w .1)

@@ -19,7 +19,9 @@ use Rattle.model.proofs.Values.{clash}
 use Rattle.adl.specs.Tables.{Table, arity, Around, most-entries, outermost, deeper, in-range}
 use Rattle.adl.specs.Reads.{term-of, term, terms, junction-of, formulas-of, consequents-of, effects-of, formula-by, formula, changed-atom, change-by, consequent-by, consequent, effect-by, effect, type-set, most-atoms, with-atoms, predicate, fact, parameter, operator, task}
 use Rattle.adl.specs.Loads.{is-good, accepted, task-in, task-of}
-use Rattle.adl.proofs.Inverting.{bad-is-not-good, same-reading, read-on, made-of, was-passed, by-test, headed, series-opens, series-each, many-each}
+use Rattle.adl.proofs.Reading.{bad-is-not-good, passed}
+use Rattle.adl.proofs.Entries.{on-from}
+use Rattle.adl.proofs.Inverting.{same-reading, read-on, made-of, by-test, series-opens, series-each, many-each}
 
 -- the task has the objects, the types and the predicates that the table declares
 record Declares (t : Table) (T : tree.Task) : Type 0 where
@@ -50,7 +52,7 @@ module _ (t : Table) (T : tree.Task) (d : Declares t T) where
   -- what is read as a term is known where it stands
   term-known : (a : Around) (i : ℕ) (x : Term) (j : ℕ) → term t a i ≡ good x j → Known-term (T .objects) (a .variables) x
   term-known a i x j e =
-      let w = headed t place.Term a i (λ e k. good (term-of e) k) x j e in
+      let w = on-from t place.Term a i (λ e k. good (term-of e) k) x j e in
       same-reading (Known-term (T .objects) (a .variables)) _ x (i + 1) j (w .1)
       (named-known a (getD (t .kinds) i 0) (getD (t .operands) i 0) (w .0 .ranged) (w .0 .permits))
 
@@ -103,9 +105,9 @@ module _ (t : Table) (T : tree.Task) (d : Declares t T) where
   -- what is read as a formula is known where it stands
   formula-known : (room : ℕ) (a : Around) (i : ℕ) (f : Formula) (j : ℕ) → formula t room a i ≡ good f j → Known-formula T (a .variables) f
   unfolding formula
-  formula-known zero a i f j e = let w = headed t place.Formula a i (λ e j. bad 6 i) f j e in bad-is-not-good 6 i f j (w .1)
+  formula-known zero a i f j e = let w = on-from t place.Formula a i (λ e j. bad 6 i) f j e in bad-is-not-good 6 i f j (w .1)
   formula-known (suc room) a i f j e =
-      let w = headed t place.Formula a i (λ e j. formula-by t (formula t room) a e j) f j e in
+      let w = on-from t place.Formula a i (λ e j. formula-by t (formula t room) a e j) f j e in
       formula-by-known (formula t room) (formula-known room) a (getD (t .kinds) i 0) (getD (t .operands) i 0) (i + 1) (w .0 .ranged) f j (w .1)
 
   -- Changes.
@@ -120,7 +122,7 @@ module _ (t : Table) (T : tree.Task) (d : Declares t T) where
   change-known : (a : Around) (k o j : ℕ) (c : Change) (l : ℕ) → in-range t a (entry k o) ≡ true → (eqb k 4 ≡ false → k ≡ 2) → change-by t a (entry k o) j ≡ good c l → Known-change T (a .variables) c
   change-known a k o j c l h two e =
       by-test (eqb k 4) _ _ _ e
-      (λ is q. let u = headed t place.Negated a j (λ f k. changed-atom t a false f k) c l q in
+      (λ is q. let u = on-from t place.Negated a j (λ f k. changed-atom t a false f k) c l q in
       changed-known a false (getD (t .kinds) j 0) (getD (t .operands) j 0) (j + 1) c l (u .0 .ranged) (eqb-true _ 2 (u .0 .permits)) (u .1))
       λ no q. changed-known a true k o j c l h (two no) q
 
@@ -138,9 +140,9 @@ module _ (t : Table) (T : tree.Task) (d : Declares t T) where
   -- what is read as a consequent has known changes
   consequent-known : (room : ℕ) (a : Around) (i : ℕ) (c : Consequent) (j : ℕ) → consequent t room a i ≡ good c j → Known-outcomes (a .variables) c
   unfolding consequent
-  consequent-known zero a i c j e = let w = headed t place.Consequent a i (λ e j. bad 6 i) c j e in bad-is-not-good 6 i c j (w .1)
+  consequent-known zero a i c j e = let w = on-from t place.Consequent a i (λ e j. bad 6 i) c j e in bad-is-not-good 6 i c j (w .1)
   consequent-known (suc room) a i c j e =
-      let w = headed t place.Consequent a i (λ e j. consequent-by t (consequent t room a) a e j) c j e in
+      let w = on-from t place.Consequent a i (λ e j. consequent-by t (consequent t room a) a e j) c j e in
       let k = getD (t .kinds) i 0 in
       let o = getD (t .operands) i 0 in
       by-test (eqb k 5) _ _ _ (w .1)
@@ -163,9 +165,9 @@ module _ (t : Table) (T : tree.Task) (d : Declares t T) where
   -- what is read as an effect is known where it stands
   effect-known : (room : ℕ) (a : Around) (i : ℕ) (e : Effect) (j : ℕ) → effect t room a i ≡ good e j → Known-effect T (a .variables) e
   unfolding effect
-  effect-known zero a i e j h = let w = headed t place.Effect a i (λ e j. bad 6 i) e j h in bad-is-not-good 6 i e j (w .1)
+  effect-known zero a i e j h = let w = on-from t place.Effect a i (λ e j. bad 6 i) e j h in bad-is-not-good 6 i e j (w .1)
   effect-known (suc room) a i e j h =
-      let w = headed t place.Effect a i (λ e j. effect-by t (effect t room) a e j) e j h in
+      let w = on-from t place.Effect a i (λ e j. effect-by t (effect t room) a e j) e j h in
       let k = getD (t .kinds) i 0 in
       let o = getD (t .operands) i 0 in
       let Known : Effect → Type 0 = Known-effect T (a .variables) in
@@ -197,7 +199,7 @@ module _ (t : Table) (T : tree.Task) (d : Declares t T) where
   fact-known : (i : ℕ) (f : Fact) (j : ℕ) → fact t i ≡ good f j → Known-fact T f
   fact-known i f j e =
       let a = outermost 0 i in
-      let w = headed t place.Fact a i (λ e j. then (terms t a (e .operand) j) λ ts k. good (record { predicate = e .operand; arguments = map (object-of []) ts }) k) f j e in
+      let w = on-from t place.Fact a i (λ e j. then (terms t a (e .operand) j) λ ts k. good (record { predicate = e .operand; arguments = map (object-of []) ts }) k) f j e in
       let p = getD (t .operands) i 0 in
       made-of (Known-fact T) (terms t a p (i + 1)) (λ ts. record { predicate = p; arguments = map (object-of []) ts }) f j (w .1) λ ts n r.
       let u = atom-known a p (i + 1) ts n (names-predicate a (getD (t .kinds) i 0) p (w .0 .ranged) (eqb-true _ 2 (w .0 .permits))) r in
@@ -208,7 +210,7 @@ module _ (t : Table) (T : tree.Task) (d : Declares t T) where
   -- a parameter's type is one of the task's
   parameter-known : (i ty j : ℕ) → parameter t i ≡ good ty j → ty < length (T .types)
   parameter-known i ty j e =
-      let w = headed t place.Parameter (outermost 0 i) i (λ e j. good (e .operand) j) ty j e in
+      let w = on-from t place.Parameter (outermost 0 i) i (λ e j. good (e .operand) j) ty j e in
       let o = getD (t .operands) i 0 in
       same-reading (λ x. x < length (T .types)) o ty (i + 1) j (w .1)
       (omega (arith, ltb-true o (t .types) (ranged-at t (outermost 0 i) (getD (t .kinds) i 0) o 17 (w .0 .ranged) (eqb-true _ 17 (w .0 .permits))), d .types))
@@ -217,7 +219,7 @@ module _ (t : Table) (T : tree.Task) (d : Declares t T) where
   operator-known : (i : ℕ) (x : Operator) (j : ℕ) → operator t i ≡ good x j → Known-operator T x
   operator-known i x j e =
       let n = getD (t .operands) i 0 in
-      let w = headed t place.Operator (outermost 0 i) i
+      let w = on-from t place.Operator (outermost 0 i) i
       (λ e j. then (many (parameter t) (e .operand) j) λ tys k.
       then (formula t most-entries (outermost (e .operand) k) k) λ f l.
       then (effect t most-entries (outermost (e .operand) l) l) λ g m.
@@ -237,7 +239,7 @@ module _ (t : Table) (T : tree.Task) (d : Declares t T) where
 -- a type has bits for objects only
 type-known : (t : Table) (i x j : ℕ) → type-set t i ≡ good x j → x < 2 ^ t .objects
 type-known t i x j e =
-    let w = headed t place.TypeSet (outermost 0 i) i (λ e j. good (e .operand) j) x j e in
+    let w = on-from t place.TypeSet (outermost 0 i) i (λ e j. good (e .operand) j) x j e in
     let o = getD (t .operands) i 0 in
     same-reading (λ y. y < 2 ^ t .objects) o x (i + 1) j (w .1)
     (ltb-true o (2 ^ t .objects) (ranged-at t (outermost 0 i) (getD (t .kinds) i 0) o 14 (w .0 .ranged) (eqb-true _ 14 (w .0 .permits))))
@@ -246,7 +248,7 @@ type-known t i x j e =
 after-types : (t : Table) (m i : ℕ) (xs : List ℕ) (k : ℕ) → many (type-set t) m i ≡ good xs k → k ≡ i + m
 after-types t zero i xs k e = let q : i ≡ k = cc in omega arith
 after-types t (suc m) i xs k e = series-opens (λ (_ : Unit {0}). type-set t) (λ _ _. tt) m tt i xs k e λ x j rest r u q.
-    let w = headed t place.TypeSet (outermost 0 i) i (λ e j. good (e .operand) j) x j r in
+    let w = on-from t place.TypeSet (outermost 0 i) i (λ e j. good (e .operand) j) x j r in
     let g : good (getD (t .operands) i 0) (i + 1) ≡ good x j = w .1 in
     let y : i + 1 ≡ j = cc in
     let z = after-types t m j rest k u in
@@ -256,8 +258,8 @@ after-types t (suc m) i xs k e = series-opens (λ (_ : Unit {0}). type-set t) (�
 arities-read : (t : Table) (m s i : ℕ) (xs : List ℕ) (k : ℕ) → series (predicate t) (with-atoms t) m s i ≡ good xs k → (p : ℕ) → p < m → getD xs p 0 ≡ getD (t .operands) (i + p) 0
 arities-read t zero s i xs k e p h = let z : ⊥ = omega arith in absurd z
 arities-read t (suc m) s i xs k e p h = series-opens (predicate t) (with-atoms t) m s i xs k e λ x j rest r u q.
-    let w = headed t place.Predicate (outermost 0 i) i (λ e j. unless (leb (with-atoms t s (e .operand)) most-atoms) 7 i (good (e .operand) j)) x j r in
-    let g = was-passed _ 7 i (good (getD (t .operands) i 0) (i + 1)) x j (w .1) .1 in
+    let w = on-from t place.Predicate (outermost 0 i) i (λ e j. unless (leb (with-atoms t s (e .operand)) most-atoms) 7 i (good (e .operand) j)) x j r in
+    let g = passed _ 7 i (good (getD (t .operands) i 0) (i + 1)) x j (w .1) .1 in
     let a : getD (t .operands) i 0 ≡ x = cc in
     let b : i + 1 ≡ j = cc in
     ap (λ ys. getD ys p 0) q ∙ at x j rest (sym a) b (arities-read t m (with-atoms t s x) j rest k u) p h
@@ -287,7 +289,7 @@ task-known t T n e =
       predicates = series-each (λ _. Unit {0}) (predicate t) (with-atoms t) (λ _ _ _ _ _. tt) (t .predicates) 0 i ps j eps .1;
       arities = λ p h. let z : i + p ≡ t .types + p = omega arith in arities-read t (t .predicates) 0 i ps j eps p h ∙ ap (λ x. getD (t .operands) x 0) z;
     } in
-    same-reading Well-formed T′ T m n (was-passed _ 4 m _ T n e .1)
+    same-reading Well-formed T′ T m n (passed _ 4 m _ T n e .1)
     (record {
       types = types .0;
       facts = many-each (Known-fact T′) (fact t) (fact-known t T′ d) (t .facts) j fs k efs .0;

@@ -21,7 +21,8 @@ use Rattle.model.proofs.Numbers.{effect-known}
 use Rattle.adl.specs.Tables.{Table, Around, entry-at, arity, most-entries, deeper, within-bounds, head}
 use Rattle.adl.specs.Reads.{term, terms, junction-of, formulas-of, formula-by, formula, changed-atom, change-by, consequents-of, consequent-by, consequent, effects-of, effect-by, effect}
 use Rattle.runs.specs.Effects.{consequent-literals, effect-literals, effects-literals, Effect-at}
-use Rattle.adl.proofs.Entries.{never, then-good, last, Headed, on-from, none-read, first-read, goes-on}
+use Rattle.adl.proofs.Entries.{last, Headed, on-from, none-read, first-read, goes-on}
+use Rattle.adl.proofs.Reading.{bad-is-not-good, first-step}
 use Rattle.adl.proofs.Inside.{inside-at, inside-effect}
 use Rattle.runs.proofs.EffectShapes.{read-as, consequent-goes-on, effect-goes-on}
 use Rattle.runs.proofs.Walks.{gather-append, gather-gather}
@@ -99,19 +100,19 @@ consequent-parts-few t read h a e i c j l q = by-kind (eqb (e .kind) 5) q
         cond is-and (then (many read (e .operand) (i + 1)) λ cs k. good (outcomes (consequents-of cs)) k)
         (then (change-by t a e (i + 1)) λ c k. good (outcome c) k) ≡ good c j → length (outcomes-of c) ≤ j - i
     by-kind true x =
-        let w = then-good (many read (e .operand) (i + 1)) (λ cs k. good (outcomes (consequents-of cs)) k) c j x in
+        let w = first-step (many read (e .operand) (i + 1)) (λ cs k. good (outcomes (consequents-of cs)) k) c j x in
         let q = read-as (outcomes (consequents-of (w .0))) c (w .1) j (w .3) in
         let y = consequents-few read h (e .operand) (i + 1) (w .0) (w .1) (w .2) in
         omega (arith, y .1, q .1, ap (λ d. length (outcomes-of d)) (q .0))
     by-kind false x =
-        let w = then-good (change-by t a e (i + 1)) (λ c k. good (outcome c) k) c j x in
+        let w = first-step (change-by t a e (i + 1)) (λ c k. good (outcome c) k) c j x in
         let q = read-as (outcome (w .0)) c (w .1) j (w .3) in
         omega (arith, l, ap (λ d. length (outcomes-of d)) (q .0))
 
 -- a consequent has at most as many changes as entries
 consequent-few : (t : Table) (room : ℕ) (a : Around) (i : ℕ) (c : Consequent) (j : ℕ) → consequent t room a i ≡ good c j → length (outcomes-of c) ≤ j - i
 unfolding consequent
-consequent-few t zero a i c j e = let w = on-from t place.Consequent a i (λ e j. bad 6 i) c j e in never 6 i c j (w .1)
+consequent-few t zero a i c j e = let w = on-from t place.Consequent a i (λ e j. bad 6 i) c j e in bad-is-not-good 6 i c j (w .1)
 consequent-few t (suc r) a i c j e =
     let w = on-from t place.Consequent a i (λ e k. consequent-by t (consequent t r a) a e k) c j e in
     consequent-parts-few t (consequent t r a) (λ i c j h. (consequent-goes-on t r a i c j h, consequent-few t r a i c j h)) a (entry-at t i) i c j (consequent-goes-on t (suc r) a i c j e) (w .1)
@@ -163,14 +164,14 @@ module _ (T : Task) (s : State) where
       by-kind true is-forall is-when b x =
           let o = getD (t .operands) i 0 in
           let p = copies (a .quantifiers) in
-          let w = then-good (many (read a) o (i + 1)) (λ es k. good (conjunction (effects-of es)) k) f j x in
+          let w = first-step (many (read a) o (i + 1)) (λ es k. good (conjunction (effects-of es)) k) f j x in
           let q = read-as (conjunction (effects-of (w .0))) f (w .1) j (w .3) in
           let y = effects-few sh p (read a) (λ i e j h. (goes a i e j h, few a i e j h sh)) o (i + 1) (w .0) (w .1) (w .2) in
           let z : w .1 - (i + 1) ≤ j - i = omega (arith, q .1) in
           omega (arith, y .1, mul-le-mul-right p z, ap (λ g. length (effect-literals T s sh g)) (q .0))
       by-kind false true is-when b x =
           let o = getD (t .operands) i 0 in
-          let w = then-good (read (deeper a) (i + 1)) (λ f k. good (for-each o f) k) f j x in
+          let w = first-step (read (deeper a) (i + 1)) (λ f k. good (for-each o f) k) f j x in
           let q = read-as (for-each o (w .0)) f (w .1) j (w .3) in
           let d = copies (a .quantifiers + 1) in
           let y = each-few n sh o (w .0) ((w .1 - (i + 1)) * d) (λ sheet. few (deeper a) (i + 1) (w .0) (w .1) (w .2) sheet) in
@@ -180,13 +181,13 @@ module _ (T : Task) (s : State) where
           let g = copies-step (a .quantifiers) (ltb-true (a .quantifiers) 3 (and-parts (ltb (i - a .start) 256) (ltb (a .quantifiers) 3) c .1)) in
           omega (arith, y, mul-le-mul-right d z, mul-left-comm (j - i) 32 d, ap (λ m. (j - i) * m) g, ap (λ g. length (effect-literals T s sh g)) (q .0))
       by-kind false false true b x =
-          let w = then-good (formula t most-entries a (i + 1)) (λ f k. then (consequent t most-entries a k) λ c l. good (when f c) l) f j x in
-          let u = then-good (consequent t most-entries a (w .1)) (λ c l. good (when (w .0) c) l) f j (w .3) in
+          let w = first-step (formula t most-entries a (i + 1)) (λ f k. then (consequent t most-entries a k) λ c l. good (when f c) l) f j x in
+          let u = first-step (consequent t most-entries a (w .1)) (λ c l. good (when (w .0) c) l) f j (w .3) in
           let q = read-as (when (w .0) (u .0)) f (u .1) j (u .3) in
           let y = consequent-few t most-entries a (w .1) (u .0) (u .1) (u .2) in
           omega (arith, y, when-few sh (w .0) (u .0), goes-on t most-entries a (i + 1) (w .0) (w .1) (w .2), q .1, le-mul-of-pos-right (j - i) (copies-pos (a .quantifiers)), ap (λ g. length (effect-literals T s sh g)) (q .0))
       by-kind false false false b x =
-          let w = then-good (change-by t a (entry-at t i) (i + 1)) (λ c k. good (change c) k) f j x in
+          let w = first-step (change-by t a (entry-at t i) (i + 1)) (λ c k. good (change c) k) f j x in
           let q = read-as (change (w .0)) f (w .1) j (w .3) in
           omega (arith, l, le-mul-of-pos-right (j - i) (copies-pos (a .quantifiers)), ap (λ g. length (effect-literals T s sh g)) (q .0))
 
@@ -194,7 +195,7 @@ module _ (T : Task) (s : State) where
   pub effect-few : T .objects ≤ 32 → (t : Table) (room : ℕ) (a : Around) (i : ℕ) (e : Effect) (j : ℕ) → effect t room a i ≡ good e j
       → (sh : List ℕ) → length (effect-literals T s sh e) ≤ (j - i) * copies (a .quantifiers)
   unfolding effect
-  effect-few n t zero a i f j e sh = let w = on-from t place.Effect a i (λ e j. bad 6 i) f j e in never 6 i f j (w .1)
+  effect-few n t zero a i f j e sh = let w = on-from t place.Effect a i (λ e j. bad 6 i) f j e in bad-is-not-good 6 i f j (w .1)
   effect-few n t (suc r) a i f j e sh =
       let w = on-from t place.Effect a i (λ e k. effect-by t (effect t r) a e k) f j e in
       effect-parts-few n t (effect t r) (effect-goes-on t r) (effect-few n t r) a i f j (w .0) (effect-goes-on t (suc r) a i f j e) (w .1) sh

@@ -17,7 +17,8 @@ use Rattle.adl.specs.Tables.{Table, Around, entry-at, arity, most-entries, deep
 use Rattle.adl.specs.Reads.{term, terms, formula, changed-atom, change-by, consequents-of, consequent-by, consequent, effects-of, effect-by, effect}
 use Rattle.runs.specs.Standing.{Terms-at, Formula-at}
 use Rattle.runs.specs.Effects.{Change-at, Consequent-at, Consequents-at, Effect-at, Effects-at}
-use Rattle.adl.proofs.Entries.{never, then-good, last, Headed, on-from, none-read, first-read, items-go-on, term-goes-on, goes-on}
+use Rattle.adl.proofs.Entries.{last, Headed, on-from, none-read, first-read, items-go-on, term-goes-on, goes-on}
+use Rattle.adl.proofs.Reading.{bad-is-not-good, first-step}
 use Rattle.runs.proofs.Shapes.{after-terms}
 
 -- Kinds.
@@ -84,7 +85,7 @@ read-as x y k l e = let p : x ≡ y = cc in let q : k ≡ l = cc in (sym p, q)
 atom-goes-on : (t : Table) (a : Around) (b : Bool) (e : Entry) (j : ℕ) (c : Change) (l : ℕ) → changed-atom t a b e j ≡ good c l → j ≤ l
 atom-goes-on t a b e j c l q =
     let made : List Term → Change = λ ts. record { adds = b; predicate = e .operand; terms = ts } in
-    let w = then-good (terms t a (e .operand) j) (λ ts k. good (made ts) k) c l q in
+    let w = first-step (terms t a (e .operand) j) (λ ts k. good (made ts) k) c l q in
     omega (arith, items-go-on (term t a) (term-goes-on t a) (arity t (e .operand)) j (w .0) (w .1) (w .2), last (made (w .0)) c (w .1) l (w .3))
 
 change-goes-on : (t : Table) (a : Around) (e : Entry) (j : ℕ) (c : Change) (l : ℕ) → change-by t a e j ≡ good c l → j ≤ l
@@ -100,7 +101,7 @@ change-goes-on t a e j c l q = by-kind (eqb (e .kind) 4) q
 atom-terms : (t : Table) (a : Around) (b : Bool) (p j : ℕ) (k : ℕ) (c : Change) (l : ℕ) → changed-atom t a b (entry k p) j ≡ good c l → p < t .predicates
     → (ts : List Term) × (c ≡ record { adds = b; predicate = p; terms = ts }) × Terms-at t (a .variables) p j ts l
 atom-terms t a b p j k c l q h =
-    let w = then-good (terms t a p j) (λ ts k. good (record { adds = b; predicate = p; terms = ts }) k) c l q in
+    let w = first-step (terms t a p j) (λ ts k. good (record { adds = b; predicate = p; terms = ts }) k) c l q in
     let r = read-as {A = Change} (record { adds = b; predicate = p; terms = w .0 }) c (w .1) l (w .3) in
     (w .0, r .0, record { around = a; reads = w .2 ∙ ap (good (w .0)) (r .1); known = refl; predicate = h })
 
@@ -179,7 +180,7 @@ module _ {t : Table} {v i : ℕ} {c : Change} {j : ℕ} (s : Change-at t v i c j
 consequent-opened : (t : Table) (room : ℕ) (a : Around) (i : ℕ) (c : Consequent) (j : ℕ) → consequent t room a i ≡ good c j
     → Headed t place.Consequent a i × ((r : ℕ) × (consequent-by t (consequent t r a) a (entry-at t i) (i + 1) ≡ good c j))
 unfolding consequent
-consequent-opened t zero a i c j e = let w = on-from t place.Consequent a i (λ e j. bad 6 i) c j e in never 6 i c j (w .1)
+consequent-opened t zero a i c j e = let w = on-from t place.Consequent a i (λ e j. bad 6 i) c j e in bad-is-not-good 6 i c j (w .1)
 consequent-opened t (suc r) a i c j e = let w = on-from t place.Consequent a i (λ e k. consequent-by t (consequent t r a) a e k) c j e in (w .0, (r, w .1))
 
 consequent-parts-go-on : (t : Table) (read : ℕ → Out Consequent) → ((i : ℕ) (c : Consequent) (j : ℕ) → read i ≡ good c j → i < j)
@@ -190,16 +191,16 @@ consequent-parts-go-on t read h a e j c l q = by-kind (eqb (e .kind) 5) q
         cond is-and (then (many read (e .operand) j) λ cs k. good (outcomes (consequents-of cs)) k)
         (then (change-by t a e j) λ c k. good (outcome c) k) ≡ good c l → j ≤ l
     by-kind true x =
-        let w = then-good (many read (e .operand) j) (λ cs k. good (outcomes (consequents-of cs)) k) c l x in
+        let w = first-step (many read (e .operand) j) (λ cs k. good (outcomes (consequents-of cs)) k) c l x in
         omega (arith, items-go-on read h (e .operand) j (w .0) (w .1) (w .2), last (outcomes (consequents-of (w .0))) c (w .1) l (w .3))
     by-kind false x =
-        let w = then-good (change-by t a e j) (λ c k. good (outcome c) k) c l x in
+        let w = first-step (change-by t a e j) (λ c k. good (outcome c) k) c l x in
         omega (arith, change-goes-on t a e j (w .0) (w .1) (w .2), last (outcome (w .0)) c (w .1) l (w .3))
 
 -- a consequent has at least one entry
 pub consequent-goes-on : (t : Table) (room : ℕ) (a : Around) (i : ℕ) (c : Consequent) (j : ℕ) → consequent t room a i ≡ good c j → i < j
 unfolding consequent
-consequent-goes-on t zero a i c j e = let w = on-from t place.Consequent a i (λ e j. bad 6 i) c j e in never 6 i c j (w .1)
+consequent-goes-on t zero a i c j e = let w = on-from t place.Consequent a i (λ e j. bad 6 i) c j e in bad-is-not-good 6 i c j (w .1)
 consequent-goes-on t (suc r) a i c j e =
     let w = on-from t place.Consequent a i (λ e k. consequent-by t (consequent t r a) a e k) c j e in
     omega (arith, consequent-parts-go-on t (consequent t r a) (consequent-goes-on t r a) a (entry-at t i) (i + 1) c j (w .1))
@@ -224,7 +225,7 @@ module _ {t : Table} {v i : ℕ} {c : Consequent} {j : ℕ} (s : Consequent-at t
       let read = consequent t (f .0) (s .around) in
       let o = getD (t .operands) i 0 in
       let h = ap (λ n. consequent-by t read (s .around) (entry n o) (i + 1)) (sym e) ∙ f .1 in
-      let w = then-good (many read o (i + 1)) (λ cs k. good (outcomes (consequents-of cs)) k) c j h in
+      let w = first-step (many read o (i + 1)) (λ cs k. good (outcomes (consequents-of cs)) k) c j h in
       let r = read-as (outcomes (consequents-of (w .0))) c (w .1) j (w .3) in
       (w .0, r .0, record { room = f .0; around = s .around; reads = w .2 ∙ ap (good (w .0)) (r .1); known = s .known })
 
@@ -235,7 +236,7 @@ module _ {t : Table} {v i : ℕ} {c : Consequent} {j : ℕ} (s : Consequent-at t
       let h = consequent-facts .0 in
       let read = consequent t (f .0) (s .around) in
       let b = cond-false (eqb (getD (t .kinds) i 0) 5) (then (many read (getD (t .operands) i 0) (i + 1)) λ cs k. good (outcomes (consequents-of cs)) k) (then (change-by t (s .around) (entry-at t i) (i + 1)) λ c k. good (outcome c) k) (ne-eqb _ _ e) in
-      let w = then-good (change-by t (s .around) (entry-at t i) (i + 1)) (λ c k. good (outcome c) k) c j (sym b ∙ f .1) in
+      let w = first-step (change-by t (s .around) (entry-at t i) (i + 1)) (λ c k. good (outcome c) k) c j (sym b ∙ f .1) in
       let r = read-as (outcome (w .0)) c (w .1) j (w .3) in (
         w .0,
         r .0,
@@ -266,7 +267,7 @@ module _ {t : Table} {v i m : ℕ} {cs : List Consequent} {j : ℕ} (s : Consequ
 effect-opened : (t : Table) (room : ℕ) (a : Around) (i : ℕ) (e : Effect) (j : ℕ) → effect t room a i ≡ good e j
     → Headed t place.Effect a i × ((r : ℕ) × (effect-by t (effect t r) a (entry-at t i) (i + 1) ≡ good e j))
 unfolding effect
-effect-opened t zero a i f j e = let w = on-from t place.Effect a i (λ e j. bad 6 i) f j e in never 6 i f j (w .1)
+effect-opened t zero a i f j e = let w = on-from t place.Effect a i (λ e j. bad 6 i) f j e in bad-is-not-good 6 i f j (w .1)
 effect-opened t (suc r) a i f j e = let w = on-from t place.Effect a i (λ e k. effect-by t (effect t r) a e k) f j e in (w .0, (r, w .1))
 
 effect-parts-go-on : (t : Table) (read : Around → ℕ → Out Effect) → ((a : Around) (i : ℕ) (f : Effect) (j : ℕ) → read a i ≡ good f j → i < j)
@@ -279,23 +280,23 @@ effect-parts-go-on t read h a e j f l q = by-kind (eqb (e .kind) 5) (eqb (e .kin
         (cond is-when (then (formula t most-entries a j) λ f k. then (consequent t most-entries a k) λ c l. good (when f c) l)
         (then (change-by t a e j) λ c k. good (change c) k))) ≡ good f l → j ≤ l
     by-kind true is-forall is-when x =
-        let w = then-good (many (read a) (e .operand) j) (λ es k. good (conjunction (effects-of es)) k) f l x in
+        let w = first-step (many (read a) (e .operand) j) (λ es k. good (conjunction (effects-of es)) k) f l x in
         omega (arith, items-go-on (read a) (h a) (e .operand) j (w .0) (w .1) (w .2), last (conjunction (effects-of (w .0))) f (w .1) l (w .3))
     by-kind false true is-when x =
-        let w = then-good (read (deeper a) j) (λ f k. good (for-each (e .operand) f) k) f l x in
+        let w = first-step (read (deeper a) j) (λ f k. good (for-each (e .operand) f) k) f l x in
         omega (arith, h (deeper a) j (w .0) (w .1) (w .2), last (for-each (e .operand) (w .0)) f (w .1) l (w .3))
     by-kind false false true x =
-        let w = then-good (formula t most-entries a j) (λ f k. then (consequent t most-entries a k) λ c l. good (when f c) l) f l x in
-        let u = then-good (consequent t most-entries a (w .1)) (λ c l. good (when (w .0) c) l) f l (w .3) in
+        let w = first-step (formula t most-entries a j) (λ f k. then (consequent t most-entries a k) λ c l. good (when f c) l) f l x in
+        let u = first-step (consequent t most-entries a (w .1)) (λ c l. good (when (w .0) c) l) f l (w .3) in
         omega (arith, goes-on t most-entries a j (w .0) (w .1) (w .2), consequent-goes-on t most-entries a (w .1) (u .0) (u .1) (u .2), last (when (w .0) (u .0)) f (u .1) l (u .3))
     by-kind false false false x =
-        let w = then-good (change-by t a e j) (λ c k. good (change c) k) f l x in
+        let w = first-step (change-by t a e j) (λ c k. good (change c) k) f l x in
         omega (arith, change-goes-on t a e j (w .0) (w .1) (w .2), last (change (w .0)) f (w .1) l (w .3))
 
 -- an effect has at least one entry
 pub effect-goes-on : (t : Table) (room : ℕ) (a : Around) (i : ℕ) (e : Effect) (j : ℕ) → effect t room a i ≡ good e j → i < j
 unfolding effect
-effect-goes-on t zero a i f j e = let w = on-from t place.Effect a i (λ e j. bad 6 i) f j e in never 6 i f j (w .1)
+effect-goes-on t zero a i f j e = let w = on-from t place.Effect a i (λ e j. bad 6 i) f j e in bad-is-not-good 6 i f j (w .1)
 effect-goes-on t (suc r) a i f j e =
     let w = on-from t place.Effect a i (λ e k. effect-by t (effect t r) a e k) f j e in
     omega (arith, effect-parts-go-on t (effect t r) (effect-goes-on t r) a (entry-at t i) (i + 1) f j (w .1))
@@ -324,7 +325,7 @@ module _ {t : Table} {v i : ℕ} {e : Effect} {j : ℕ} (s : Effect-at t v i e j
   at-conjunction q =
       let h = effect-rest 5 q in
       let o = getD (t .operands) i 0 in
-      let w = then-good (many (effect t (h .0) (s .around)) o (i + 1)) (λ es k. good (conjunction (effects-of es)) k) e j (h .1) in
+      let w = first-step (many (effect t (h .0) (s .around)) o (i + 1)) (λ es k. good (conjunction (effects-of es)) k) e j (h .1) in
       let r = read-as (conjunction (effects-of (w .0))) e (w .1) j (w .3) in
       (w .0, r .0, record { room = h .0; around = s .around; reads = w .2 ∙ ap (good (w .0)) (r .1); known = s .known; few = s .few })
 
@@ -334,7 +335,7 @@ module _ {t : Table} {v i : ℕ} {e : Effect} {j : ℕ} (s : Effect-at t v i e j
   at-for-each q =
       let h = effect-rest 8 q in
       let o = getD (t .operands) i 0 in
-      let w = then-good (effect t (h .0) (deeper (s .around)) (i + 1)) (λ f k. good (for-each o f) k) e j (h .1) in
+      let w = first-step (effect t (h .0) (deeper (s .around)) (i + 1)) (λ f k. good (for-each o f) k) e j (h .1) in
       let r = read-as (for-each o (w .0)) e (w .1) j (w .3) in
       let b = ap (λ n. within-bounds (s .around) i (entry n o)) (sym q) ∙ effect-facts .0 .bounded in
       let c = ap (λ n. in-range t (s .around) (entry n o)) (sym q) ∙ effect-facts .0 .ranged in
@@ -351,8 +352,8 @@ module _ {t : Table} {v i : ℕ} {e : Effect} {j : ℕ} (s : Effect-at t v i e j
       → (f : Formula) × (c : Consequent) × (k : ℕ) × (e ≡ when f c) × Formula-at t v (i + 1) f k × Consequent-at t v k c j
   at-when q =
       let h = effect-rest 12 q in
-      let w = then-good (formula t most-entries (s .around) (i + 1)) (λ f k. then (consequent t most-entries (s .around) k) λ c l. good (when f c) l) e j (h .1) in
-      let u = then-good (consequent t most-entries (s .around) (w .1)) (λ c l. good (when (w .0) c) l) e j (w .3) in
+      let w = first-step (formula t most-entries (s .around) (i + 1)) (λ f k. then (consequent t most-entries (s .around) k) λ c l. good (when f c) l) e j (h .1) in
+      let u = first-step (consequent t most-entries (s .around) (w .1)) (λ c l. good (when (w .0) c) l) e j (w .3) in
       let r = read-as (when (w .0) (u .0)) e (u .1) j (u .3) in (
         w .0,
         u .0,
@@ -369,7 +370,7 @@ module _ {t : Table} {v i : ℕ} {e : Effect} {j : ℕ} (s : Effect-at t v i e j
       let f = effect-facts .1 in
       let h = effect-facts .0 in
       let b = cond-false (eqb k 5) _ _ (ne-eqb _ _ x) ∙ cond-false (eqb k 8) _ _ (ne-eqb _ _ y) ∙ cond-false (eqb k 12) _ _ (ne-eqb _ _ z) in
-      let w = then-good (change-by t (s .around) (entry-at t i) (i + 1)) (λ c k. good (change c) k) e j (sym b ∙ f .1) in
+      let w = first-step (change-by t (s .around) (entry-at t i) (i + 1)) (λ c k. good (change c) k) e j (sym b ∙ f .1) in
       let r = read-as (change (w .0)) e (w .1) j (w .3) in
       (w .0, r .0, change-stands t v (s .around) i (w .0) j (s .known) h (plain-effect-kind k (h .permits) x y z) (w .2 ∙ ap (good (w .0)) (r .1)))
 

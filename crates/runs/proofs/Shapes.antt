@@ -16,7 +16,8 @@ use Rattle.model.specs.Trees.{Term, object, variable, all, any, Formula, consta
 use Rattle.adl.specs.Tables.{Table, Around, entry-at, arity, deeper, within-bounds, in-range, head}
 use Rattle.adl.specs.Reads.{term-of, term, terms, junction-of, formulas-of, formula-by, formula}
 use Rattle.runs.specs.Standing.{Term-at, Terms-at, Formula-at, Formulas-at}
-use Rattle.adl.proofs.Entries.{never, then-good, last, Headed, on-from, term-read, none-read, first-read, goes-on}
+use Rattle.adl.proofs.Entries.{last, Headed, on-from, term-read, none-read, first-read, goes-on}
+use Rattle.adl.proofs.Reading.{bad-is-not-good, first-step}
 
 -- m terms take m places, one each
 terms-read : (t : Table) (a : Around) (m i : ℕ) (ts : List Term) (j : ℕ) → many (term t a) m i ≡ good ts j
@@ -74,7 +75,7 @@ module _ {t : Table} {v p i : ℕ} {ts : List Term} {j : ℕ} (s : Terms-at t v 
 opened : (t : Table) (room : ℕ) (a : Around) (i : ℕ) (f : Formula) (j : ℕ) → formula t room a i ≡ good f j
     → Headed t place.Formula a i × ((r : ℕ) × (formula-by t (formula t r) a (entry-at t i) (i + 1) ≡ good f j))
 unfolding formula
-opened t zero a i f j e = let w = on-from t place.Formula a i (λ e j. bad 6 i) f j e in never 6 i f j (w .1)
+opened t zero a i f j e = let w = on-from t place.Formula a i (λ e j. bad 6 i) f j e in bad-is-not-good 6 i f j (w .1)
 opened t (suc r) a i f j e = let w = on-from t place.Formula a i (λ e k. formula-by t (formula t r) a e k) f j e in (w .0, (r, w .1))
 
 module _ {t : Table} {v i : ℕ} {f : Formula} {j : ℕ} (s : Formula-at t v i f j) where
@@ -126,7 +127,7 @@ module _ {t : Table} {v i : ℕ} {f : Formula} {j : ℕ} (s : Formula-at t v i f
   pub at-atom : _≡_ {A = ℕ} 2 (getD (t .kinds) i 0) → (ts : List Term) × (f ≡ atom (getD (t .operands) i 0) ts) × Terms-at t v (getD (t .operands) i 0) (i + 1) ts j
   at-atom e =
       let o = getD (t .operands) i 0 in
-      let w = then-good (terms t (s .around) o (i + 1)) (λ ts k. good (atom o ts) k) f j (rest 2 e .1) in
+      let w = first-step (terms t (s .around) o (i + 1)) (λ ts k. good (atom o ts) k) f j (rest 2 e .1) in
       let q : good (atom o (w .0)) (w .1) ≡ good f j = w .3 in
       let p : atom o (w .0) ≡ f = cc in
       let r : w .1 ≡ j = cc in
@@ -135,8 +136,8 @@ module _ {t : Table} {v i : ℕ} {f : Formula} {j : ℕ} (s : Formula-at t v i f
   pub at-equal : _≡_ {A = ℕ} 3 (getD (t .kinds) i 0) → (x : Term) × (y : Term) × (f ≡ equal x y) × Term-at t v (i + 1) x × Term-at t v (i + 2) y × (j ≡ i + 3)
   at-equal e =
       let a = s .around in
-      let w = then-good (term t a (i + 1)) (λ x k. then (term t a k) λ y l. good (equal x y) l) f j (rest 3 e .1) in
-      let u = then-good (term t a (w .1)) (λ y l. good (equal (w .0) y) l) f j (w .3) in
+      let w = first-step (term t a (i + 1)) (λ x k. then (term t a k) λ y l. good (equal x y) l) f j (rest 3 e .1) in
+      let u = first-step (term t a (w .1)) (λ y l. good (equal (w .0) y) l) f j (w .3) in
       let q : good (equal (w .0) (u .0)) (u .1) ≡ good f j = u .3 in
       let p : equal (w .0) (u .0) ≡ f = cc in
       let r : u .1 ≡ j = cc in
@@ -155,7 +156,7 @@ module _ {t : Table} {v i : ℕ} {f : Formula} {j : ℕ} (s : Formula-at t v i f
   pub at-not : _≡_ {A = ℕ} 4 (getD (t .kinds) i 0) → (g : Formula) × (f ≡ negation g) × Formula-at t v (i + 1) g j
   at-not e =
       let h = rest 4 e in
-      let w = then-good (formula t (h .0) (s .around) (i + 1)) (λ g k. good (negation g) k) f j (h .1) in
+      let w = first-step (formula t (h .0) (s .around) (i + 1)) (λ g k. good (negation g) k) f j (h .1) in
       let q : good (negation (w .0)) (w .1) ≡ good f j = w .3 in
       let p : negation (w .0) ≡ f = cc in
       let r : w .1 ≡ j = cc in
@@ -164,7 +165,7 @@ module _ {t : Table} {v i : ℕ} {f : Formula} {j : ℕ} (s : Formula-at t v i f
   pub at-and : _≡_ {A = ℕ} 5 (getD (t .kinds) i 0) → (fs : List Formula) × (f ≡ junction all (formulas-of fs)) × Formulas-at t v (i + 1) (getD (t .operands) i 0) fs j
   at-and e =
       let h = rest 5 e in
-      let w = then-good (many (formula t (h .0) (s .around)) (getD (t .operands) i 0) (i + 1)) (λ fs k. good (junction all (formulas-of fs)) k) f j (h .1) in
+      let w = first-step (many (formula t (h .0) (s .around)) (getD (t .operands) i 0) (i + 1)) (λ fs k. good (junction all (formulas-of fs)) k) f j (h .1) in
       let q : good (junction all (formulas-of (w .0))) (w .1) ≡ good f j = w .3 in
       let p : junction all (formulas-of (w .0)) ≡ f = cc in
       let r : w .1 ≡ j = cc in
@@ -173,7 +174,7 @@ module _ {t : Table} {v i : ℕ} {f : Formula} {j : ℕ} (s : Formula-at t v i f
   pub at-or : _≡_ {A = ℕ} 6 (getD (t .kinds) i 0) → (fs : List Formula) × (f ≡ junction any (formulas-of fs)) × Formulas-at t v (i + 1) (getD (t .operands) i 0) fs j
   at-or e =
       let h = rest 6 e in
-      let w = then-good (many (formula t (h .0) (s .around)) (getD (t .operands) i 0) (i + 1)) (λ fs k. good (junction any (formulas-of fs)) k) f j (h .1) in
+      let w = first-step (many (formula t (h .0) (s .around)) (getD (t .operands) i 0) (i + 1)) (λ fs k. good (junction any (formulas-of fs)) k) f j (h .1) in
       let q : good (junction any (formulas-of (w .0))) (w .1) ≡ good f j = w .3 in
       let p : junction any (formulas-of (w .0)) ≡ f = cc in
       let r : w .1 ≡ j = cc in
@@ -183,8 +184,8 @@ module _ {t : Table} {v i : ℕ} {f : Formula} {j : ℕ} (s : Formula-at t v i f
   at-imply e =
       let h = rest 7 e in
       let read = formula t (h .0) (s .around) in
-      let w = then-good (read (i + 1)) (λ f k. then (read k) λ g l. good (implication f g) l) f j (h .1) in
-      let u = then-good (read (w .1)) (λ g l. good (implication (w .0) g) l) f j (w .3) in
+      let w = first-step (read (i + 1)) (λ f k. then (read k) λ g l. good (implication f g) l) f j (h .1) in
+      let u = first-step (read (w .1)) (λ g l. good (implication (w .0) g) l) f j (w .3) in
       let q : good (implication (w .0) (u .0)) (u .1) ≡ good f j = u .3 in
       let p : implication (w .0) (u .0) ≡ f = cc in
       let r : u .1 ≡ j = cc in
@@ -205,7 +206,7 @@ module _ {t : Table} {v i : ℕ} {f : Formula} {j : ℕ} (s : Formula-at t v i f
       let h = rest 8 e in
       let o = getD (t .operands) i 0 in
       let b = bounds 8 e in
-      let w = then-good (formula t (h .0) (deeper (s .around)) (i + 1)) (λ g k. good (quantifier all o g) k) f j (h .1) in
+      let w = first-step (formula t (h .0) (deeper (s .around)) (i + 1)) (λ g k. good (quantifier all o g) k) f j (h .1) in
       let q : good (quantifier all o (w .0)) (w .1) ≡ good f j = w .3 in
       let p : quantifier all o (w .0) ≡ f = cc in
       let r : w .1 ≡ j = cc in
@@ -216,7 +217,7 @@ module _ {t : Table} {v i : ℕ} {f : Formula} {j : ℕ} (s : Formula-at t v i f
       let h = rest 9 e in
       let o = getD (t .operands) i 0 in
       let b = bounds 9 e in
-      let w = then-good (formula t (h .0) (deeper (s .around)) (i + 1)) (λ g k. good (quantifier any o g) k) f j (h .1) in
+      let w = first-step (formula t (h .0) (deeper (s .around)) (i + 1)) (λ g k. good (quantifier any o g) k) f j (h .1) in
       let q : good (quantifier any o (w .0)) (w .1) ≡ good f j = w .3 in
       let p : quantifier any o (w .0) ≡ f = cc in
       let r : w .1 ≡ j = cc in
