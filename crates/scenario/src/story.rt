@@ -126,7 +126,12 @@ fn play(rt: &impl Print, run: &mut TaskRun, store: &mut Bits, image: &mut [u8]) 
     }
 }
 
-pub fn tell<'a>(rt: &impl Print, kinds: &'a [u8], operands: &'a [u32]) -> Result<(), AnyError> {
+// Loads the table, begins a run, plays the story and ends it.
+pub(crate) fn tell<'a>(
+    rt: &impl Print,
+    kinds: &'a [u8],
+    operands: &'a [u32],
+) -> Result<(), AnyError> {
     let mut task = Task::new();
     match task.load(SIZES, kinds, operands) {
         Ok(()) => {}
