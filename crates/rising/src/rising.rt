@@ -21,7 +21,7 @@ pub struct Full;
 fn locate<K: Key>(slots: &[K], n: usize, key: &K) -> Result<usize, usize>
     requires { n ≤ length slots.now }
     ensures within { MatchResult result (λ i. i < n) (λ i. i ≤ n) }
-    ensures found { Rises before (take n slots.now) → MatchResult result (Spot (take n slots.now) key.now) (Gap before (take n slots.now) key.now) }
+    ensures found { Rises K.before (take n slots.now) → MatchResult result (Spot (take n slots.now) key.now) (Gap K.before (take n slots.now) key.now) }
 {
     let mut low = 0;
     let mut high = n;
@@ -82,7 +82,7 @@ impl<'a, K: Key> Rising<'a, K> {
     // The place of the key, or the place where it would stand.
     pub fn find(&self, key: &K) -> Result<usize, usize>
         ensures within { MatchResult result (λ i. i < length (items self.now)) (λ i. i ≤ length (items self.now)) }
-        ensures found { Rises before (items self.now) → MatchResult result (Spot (items self.now) key.now) (Gap before (items self.now) key.now) }
+        ensures found { Rises K.before (items self.now) → MatchResult result (Spot (items self.now) key.now) (Gap K.before (items self.now) key.now) }
     {
         let slots = &*self.slots;
         locate(slots, self.count(), key)
@@ -91,7 +91,7 @@ impl<'a, K: Key> Rising<'a, K> {
     // Puts the key in: whether it was new.
     pub fn insert(&mut self, key: K) -> Result<bool, Full>
         ensures places { room self.new ≡ room self.old }
-        ensures held { Rises before (items self.old) → AfterInsert before (room self.old) (items self.old) (items self.new) key result }
+        ensures held { Rises K.before (items self.old) → AfterInsert K.before (room self.old) (items self.old) (items self.new) key result }
     {
         let at = match self.find(&key) {
             Ok(_) => return Ok(false),
@@ -110,7 +110,7 @@ impl<'a, K: Key> Rising<'a, K> {
     // Takes the key out: whether it was there.
     pub fn remove(&mut self, key: &K) -> bool
         ensures places { room self.new ≡ room self.old }
-        ensures held { Rises before (items self.old) → AfterRemove before (items self.old) (items self.new) key.now result }
+        ensures held { Rises K.before (items self.old) → AfterRemove K.before (items self.old) (items self.new) key.now result }
     {
         let at = match self.find(key) {
             Ok(at) => at,

@@ -2,8 +2,8 @@ use Rattle.std.proofs.Common.{arith, length-take}
 use Rattle.rising.proofs.Ascents.{spot_at}
 use Rattle.rising.proofs.rising.Rising.at.Goals as goal
 
-pub offset-bounds-slots-i : goal.offset-bounds-slots-i
-offset-bounds-slots-i g c = omega (arith, length-take c.args.self.now.len c.args.self.now.slots.now)
+pub offset_bounds-slots-i : goal.offset_bounds-slots-i
+offset_bounds-slots-i g c = omega (arith, length-take c.args.self.now.len c.args.self.now.slots.now)
 
 pub bounds-slots-i : goal.bounds-slots-i
 bounds-slots-i g c = omega (arith, length-take c.args.self.now.len c.args.self.now.slots.now)

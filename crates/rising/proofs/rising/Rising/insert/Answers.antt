@@ -19,14 +19,14 @@ returns g c =
     let L = g.K.Key.before in
     let slots = c.args.self.now.slots.now in
     let xs = items c.args.self.now in
-    let zs = c.copy-within.new.self in
+    let zs = c.copy_within.new.self in
     let at = c.in-Err.at in
     let n = c.count-n.result in
     let k = c.args.key in
     let le : at ≤ n = omega (arith, c.in-Err.ensures.within, c.count-n.ensures) in
-    let ins : Insertion xs (take (n + 1) (set zs at k)) k at = insertion_from_moved slots zs c.args.self.now.len n at c.count-n.ensures c.copy-within.ensures.len k le c.if-n-self.false c.copy-within.ensures.by_index in
+    let ins : Insertion xs (take (n + 1) (set zs at k)) k at = insertion_from_moved slots zs c.args.self.now.len n at c.count-n.ensures c.copy_within.ensures.len k le c.if-n-self.false c.copy_within.ensures.by_index in
     record {
-      places = length-set zs at k ∙ c.copy-within.ensures.len;
+      places = length-set zs at k ∙ c.copy_within.ensures.len;
       held = λ up.
           let gap = c.in-Err.ensures.found up in
           (gap_missing L g.met.K.Key.never xs k at gap, inserted_rises L xs _ k at up gap ins, inserted_with xs _ k at gap.within ins, ins.len);
