@@ -27,20 +27,20 @@ pub fn play_both<S: Store, R: Store>(
     book_answers: &mut [Answer],
     calls: &[Call],
 ) -> bool
-    ensures sizes { (S.Store.extent task_store.new ≡ S.Store.extent task_store.old) × (R.Store.extent book_store.new ≡ R.Store.extent book_store.old) }
+    ensures sizes { (S.extent task_store.new ≡ S.extent task_store.old) × (R.extent book_store.new ≡ R.extent book_store.old) }
     ensures short { (length task_answers.old < length calls.now) ⊎ (length book_answers.old < length calls.now) → result ≡ false }
     ensures long { length calls.now ≤ length task_answers.old → length calls.now ≤ length book_answers.old → result ≡ true }
     ensures nothing { result ≡ false →
         (task_store.new ≡ task_store.old) × (task_image.new ≡ task_image.old) × (task_answers.new ≡ task_answers.old)
         × (book_store.new ≡ book_store.old) × (book_image.new ≡ book_image.old) × (book_answers.new ≡ book_answers.old) }
-    ensures task { result ≡ true → Played (task_machine (task_of task.now) (S.Store.extent task_store.old)) (unbegun (S.Store.facts task_store.old) task_image.old) calls.now task_answers.old
-        (S.Store.facts task_store.new) task_image.new task_answers.new }
-    ensures book { result ≡ true → Played (book_machine (book_of book.now) (R.Store.extent book_store.old)) (unbegun (R.Store.facts book_store.old) book_image.old) calls.now book_answers.old
-        (R.Store.facts book_store.new) book_image.new book_answers.new }
+    ensures task { result ≡ true → Played (task_machine (task_of task.now) (S.extent task_store.old)) (unbegun (S.facts task_store.old) task_image.old) calls.now task_answers.old
+        (S.facts task_store.new) task_image.new task_answers.new }
+    ensures book { result ≡ true → Played (book_machine (book_of book.now) (R.extent book_store.old)) (unbegun (R.facts book_store.old) book_image.old) calls.now book_answers.old
+        (R.facts book_store.new) book_image.new book_answers.new }
     ensures agree { result ≡ true → MadeFrom task.now book.now
-        → Room (task_of task.now) (S.Store.extent task_store.old) (R.Store.extent book_store.old) task_image.old book_image.old
+        → Room (task_of task.now) (S.extent task_store.old) (R.extent book_store.old) task_image.old book_image.old
         → BeginsFirst calls.now
-        → EachCallAgrees (task_of task.now) (S.Store.extent task_store.old) (R.Store.extent book_store.old) (S.Store.facts task_store.old) (R.Store.facts book_store.old) task_image.old book_image.old calls.now
+        → EachCallAgrees (task_of task.now) (S.extent task_store.old) (R.extent book_store.old) (S.facts task_store.old) (R.facts book_store.old) task_image.old book_image.old calls.now
         × AnswersAgree (task_of task.now) calls.now task_answers.new book_answers.new }
 {
     if task_answers.len() < calls.len() || book_answers.len() < calls.len() {

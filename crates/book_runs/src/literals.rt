@@ -27,8 +27,8 @@ pub(crate) fn literal_end(table: &BookTable, at: usize) -> usize
 // Puts the literal at place `at`, if it adds or deletes as is asked for.
 pub(crate) fn put_literal<S: Store>(table: &BookTable, at: usize, store: &mut S, adds: bool)
     requires { literal_end (table_in table.now) at ≤ table.now.sizes.entries }
-    ensures size { S.Store.extent store.new ≡ S.Store.extent store.old }
-    ensures set { S.Store.facts store.new ≡ put_literals (S.Store.extent store.old) adds (literal_at (table_in table.now) at ∷ []) (S.Store.facts store.old) }
+    ensures size { S.extent store.new ≡ S.extent store.old }
+    ensures set { S.facts store.new ≡ put_literals (S.extent store.old) adds (literal_at (table_in table.now) at ∷ []) (S.facts store.old) }
 {
     let last = literal_end(table, at) - 1;
     if is_kind(table, at, Kind::Not) != adds {
@@ -46,8 +46,8 @@ pub(crate) fn put_literals<S: Store>(
 ) -> usize
     requires { is_good (literals (table_in table.now) at) ≡ true }
     ensures end { result ≡ next_place (literals (table_in table.now) at) }
-    ensures size { S.Store.extent store.new ≡ S.Store.extent store.old }
-    ensures set { S.Store.facts store.new ≡ put_literals (S.Store.extent store.old) adds (if holds then items_in (literals (table_in table.now) at) else []) (S.Store.facts store.old) }
+    ensures size { S.extent store.new ≡ S.extent store.old }
+    ensures set { S.facts store.new ≡ put_literals (S.extent store.old) adds (if holds then items_in (literals (table_in table.now) at) else []) (S.facts store.old) }
 {
     let mut next = at + 1;
     for _k in 0..table.operands[at] {

@@ -21,8 +21,8 @@ fn starts_true(book: &Book, fact: u32) -> bool
 
 // Puts the facts that start true, rising.
 pub(crate) fn put_starts<S: Store>(book: &Book, store: &mut S)
-    ensures size { S.Store.extent store.new ≡ S.Store.extent store.old }
-    ensures set { S.Store.facts store.new ≡ put_numbers (S.Store.extent store.old) (keep (first_facts (tree_of book.now)) (below (facts (tree_of book.now)))) (S.Store.facts store.old) }
+    ensures size { S.extent store.new ≡ S.extent store.old }
+    ensures set { S.facts store.new ≡ put_numbers (S.extent store.old) (keep (first_facts (tree_of book.now)) (below (facts (tree_of book.now)))) (S.facts store.old) }
 {
     for fact in 0..book.table.sizes.relevant {
         if starts_true(book, fact) {

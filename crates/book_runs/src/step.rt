@@ -27,8 +27,8 @@ fn put_clause<S: Store>(
     requires image { table.now.sizes.relevant ≤ length image.now }
     requires stands { is_good (clause (table_in table.now) at) ≡ true }
     ensures end { result ≡ next_place (clause (table_in table.now) at) }
-    ensures size { S.Store.extent store.new ≡ S.Store.extent store.old }
-    ensures set { S.Store.facts store.new ≡ put_literals (S.Store.extent store.old) adds (literals_in (shown image.now) (clause (table_in table.now) at)) (S.Store.facts store.old) }
+    ensures size { S.extent store.new ≡ S.extent store.old }
+    ensures set { S.facts store.new ≡ put_literals (S.extent store.old) adds (literals_in (shown image.now) (clause (table_in table.now) at)) (S.facts store.old) }
 {
     if is_kind(table, at, Kind::When) {
         let (holds, literals) = judge(table, image, 511, at + 1);
@@ -42,8 +42,8 @@ fn put_clause<S: Store>(
 fn put_effect<S: Store>(table: &BookTable, image: &[u8], at: usize, store: &mut S, adds: bool)
     requires image { table.now.sizes.relevant ≤ length image.now }
     requires stands { is_good (effect (table_in table.now) at) ≡ true }
-    ensures size { S.Store.extent store.new ≡ S.Store.extent store.old }
-    ensures set { S.Store.facts store.new ≡ put_literals (S.Store.extent store.old) adds (action_literals (shown image.now) (items_in (effect (table_in table.now) at))) (S.Store.facts store.old) }
+    ensures size { S.extent store.new ≡ S.extent store.old }
+    ensures set { S.facts store.new ≡ put_literals (S.extent store.old) adds (action_literals (shown image.now) (items_in (effect (table_in table.now) at))) (S.facts store.old) }
 {
     let mut next = at + 1;
     for _k in 0..table.operands[at] {
@@ -55,8 +55,8 @@ fn put_effect<S: Store>(table: &BookTable, image: &[u8], at: usize, store: &mut 
 fn take_step<S: Store>(table: &BookTable, image: &[u8], at: usize, store: &mut S)
     requires image { table.now.sizes.relevant ≤ length image.now }
     requires stands { is_good (effect (table_in table.now) at) ≡ true }
-    ensures size { S.Store.extent store.new ≡ S.Store.extent store.old }
-    ensures set { S.Store.facts store.new ≡ put_step (S.Store.extent store.old) (action_literals (shown image.now) (items_in (effect (table_in table.now) at))) (S.Store.facts store.old) }
+    ensures size { S.extent store.new ≡ S.extent store.old }
+    ensures set { S.facts store.new ≡ put_step (S.extent store.old) (action_literals (shown image.now) (items_in (effect (table_in table.now) at))) (S.facts store.old) }
 {
     let (first, last) = (false, true);
     put_effect(table, image, at, store, first);
@@ -68,9 +68,9 @@ pub(crate) fn attempt<S: Store>(table: &BookTable, image: &[u8], at: usize, stor
     requires image { table.now.sizes.relevant ≤ length image.now }
     requires stands { is_good (ground (table_in table.now) 513 at) ≡ true }
     requires effect { is_good (effect (table_in table.now) (next_place (ground (table_in table.now) 513 at))) ≡ true }
-    ensures size { S.Store.extent store.new ≡ S.Store.extent store.old }
+    ensures size { S.extent store.new ≡ S.extent store.old }
     ensures judged { result ≡ value_in (shown image.now) (ground (table_in table.now) 513 at) }
-    ensures set { S.Store.facts store.new ≡ (if result then put_step (S.Store.extent store.old) (action_literals (shown image.now) (items_in (effect (table_in table.now) (next_place (ground (table_in table.now) 513 at))))) (S.Store.facts store.old) else S.Store.facts store.old) }
+    ensures set { S.facts store.new ≡ (if result then put_step (S.extent store.old) (action_literals (shown image.now) (items_in (effect (table_in table.now) (next_place (ground (table_in table.now) 513 at))))) (S.facts store.old) else S.facts store.old) }
 {
     let (applicable, effect) = judge(table, image, 513, at);
     if applicable {

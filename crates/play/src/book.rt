@@ -17,10 +17,10 @@ fn begin_again<'b, 'a, S: Store>(
     store: &mut S,
 ) -> (BookRun<'b, 'a>, Answer)
     requires { run.book.now ≡ book.now }
-    ensures size { S.Store.extent store.new ≡ S.Store.extent store.old }
+    ensures size { S.extent store.new ≡ S.extent store.old }
     ensures book { result.0.book.now ≡ book.now }
-    ensures turn { (im : List ℕ) → record { steps = Some result.0.steps; set = S.Store.facts store.new; image = im; answer = result.1 }
-        ≡ running (book_machine (tree_of book.now) (S.Store.extent store.old)) run.entry.steps (S.Store.facts store.old) im Call.Begin }
+    ensures turn { (im : List ℕ) → record { steps = Some result.0.steps; set = S.facts store.new; image = im; answer = result.1 }
+        ≡ running (book_machine (tree_of book.now) (S.extent store.old)) run.entry.steps (S.facts store.old) im Call.Begin }
 {
     match BookRun::begin(book, store) {
         Ok(begun) => {
@@ -40,10 +40,10 @@ fn call_running<'b, 'a, S: Store>(
     call: Call,
 ) -> (Option<BookRun<'b, 'a>>, Answer)
     requires { run.book.now ≡ book.now }
-    ensures size { S.Store.extent store.new ≡ S.Store.extent store.old }
+    ensures size { S.extent store.new ≡ S.extent store.old }
     ensures book { is_of book.now result.0 }
-    ensures turn { record { steps = steps_of result.0; set = S.Store.facts store.new; image = image.new; answer = result.1 }
-        ≡ running (book_machine (tree_of book.now) (S.Store.extent store.old)) run.entry.steps (S.Store.facts store.old) image.old call.entry }
+    ensures turn { record { steps = steps_of result.0; set = S.facts store.new; image = image.new; answer = result.1 }
+        ≡ running (book_machine (tree_of book.now) (S.extent store.old)) run.entry.steps (S.facts store.old) image.old call.entry }
 {
     match call {
         Call::Begin => {
@@ -75,10 +75,10 @@ fn call_any<'b, 'a, S: Store>(
     call: Call,
 ) -> (Option<BookRun<'b, 'a>>, Answer)
     requires { is_of book.now run }
-    ensures size { S.Store.extent store.new ≡ S.Store.extent store.old }
+    ensures size { S.extent store.new ≡ S.extent store.old }
     ensures book { is_of book.now result.0 }
-    ensures turn { record { steps = steps_of result.0; set = S.Store.facts store.new; image = image.new; answer = result.1 }
-        ≡ turn_from (book_machine (tree_of book.now) (S.Store.extent store.old)) (steps_of run.entry) (S.Store.facts store.old) image.old call.entry }
+    ensures turn { record { steps = steps_of result.0; set = S.facts store.new; image = image.new; answer = result.1 }
+        ≡ turn_from (book_machine (tree_of book.now) (S.extent store.old)) (steps_of run.entry) (S.facts store.old) image.old call.entry }
 {
     match run {
         Some(run) => call_running(book, run, store, image, call),
@@ -108,13 +108,13 @@ pub fn play_book<S: Store>(
     calls: &[Call],
     answers: &mut [Answer],
 ) -> bool
-    ensures size { S.Store.extent store.new ≡ S.Store.extent store.old }
+    ensures size { S.extent store.new ≡ S.extent store.old }
     ensures short { length answers.old < length calls.now → (result ≡ false) × (answers.new ≡ answers.old) × (image.new ≡ image.old) × (store.new ≡ store.old) }
     ensures long { length calls.now ≤ length answers.old → result ≡ true }
-    ensures answered { result ≡ true → take (length calls.now) answers.new ≡ AnswersOf (book_machine (tree_of book.now) (S.Store.extent store.old)) (unbegun (S.Store.facts store.old) image.old) calls.now }
+    ensures answered { result ≡ true → take (length calls.now) answers.new ≡ AnswersOf (book_machine (tree_of book.now) (S.extent store.old)) (unbegun (S.facts store.old) image.old) calls.now }
     ensures rest { result ≡ true → drop (length calls.now) answers.new ≡ drop (length calls.now) answers.old }
-    ensures set { result ≡ true → S.Store.facts store.new ≡ (after (book_machine (tree_of book.now) (S.Store.extent store.old)) (unbegun (S.Store.facts store.old) image.old) calls.now).set }
-    ensures image { result ≡ true → image.new ≡ (after (book_machine (tree_of book.now) (S.Store.extent store.old)) (unbegun (S.Store.facts store.old) image.old) calls.now).image }
+    ensures set { result ≡ true → S.facts store.new ≡ (after (book_machine (tree_of book.now) (S.extent store.old)) (unbegun (S.facts store.old) image.old) calls.now).set }
+    ensures image { result ≡ true → image.new ≡ (after (book_machine (tree_of book.now) (S.extent store.old)) (unbegun (S.facts store.old) image.old) calls.now).image }
 {
     if answers.len() < calls.len() {
         return false;

@@ -17,10 +17,10 @@ fn begin_again<'t, 'a, S: Store>(
     store: &mut S,
 ) -> (TaskRun<'t, 'a>, Answer)
     requires { run.task.now ≡ task.now }
-    ensures size { S.Store.extent store.new ≡ S.Store.extent store.old }
+    ensures size { S.extent store.new ≡ S.extent store.old }
     ensures task { result.0.task.now ≡ task.now }
-    ensures turn { (im : List ℕ) → record { steps = Some result.0.steps; set = S.Store.facts store.new; image = im; answer = result.1 }
-        ≡ running (task_machine (tree_of task.now) (S.Store.extent store.old)) run.entry.steps (S.Store.facts store.old) im Call.Begin }
+    ensures turn { (im : List ℕ) → record { steps = Some result.0.steps; set = S.facts store.new; image = im; answer = result.1 }
+        ≡ running (task_machine (tree_of task.now) (S.extent store.old)) run.entry.steps (S.facts store.old) im Call.Begin }
 {
     match TaskRun::begin(task, store) {
         Ok(begun) => {
@@ -40,10 +40,10 @@ fn call_running<'t, 'a, S: Store>(
     call: Call,
 ) -> (Option<TaskRun<'t, 'a>>, Answer)
     requires { run.task.now ≡ task.now }
-    ensures size { S.Store.extent store.new ≡ S.Store.extent store.old }
+    ensures size { S.extent store.new ≡ S.extent store.old }
     ensures task { is_of task.now result.0 }
-    ensures turn { record { steps = steps_of result.0; set = S.Store.facts store.new; image = image.new; answer = result.1 }
-        ≡ running (task_machine (tree_of task.now) (S.Store.extent store.old)) run.entry.steps (S.Store.facts store.old) image.old call.entry }
+    ensures turn { record { steps = steps_of result.0; set = S.facts store.new; image = image.new; answer = result.1 }
+        ≡ running (task_machine (tree_of task.now) (S.extent store.old)) run.entry.steps (S.facts store.old) image.old call.entry }
 {
     match call {
         Call::Begin => {
@@ -75,10 +75,10 @@ fn call_any<'t, 'a, S: Store>(
     call: Call,
 ) -> (Option<TaskRun<'t, 'a>>, Answer)
     requires { is_of task.now run }
-    ensures size { S.Store.extent store.new ≡ S.Store.extent store.old }
+    ensures size { S.extent store.new ≡ S.extent store.old }
     ensures task { is_of task.now result.0 }
-    ensures turn { record { steps = steps_of result.0; set = S.Store.facts store.new; image = image.new; answer = result.1 }
-        ≡ turn_from (task_machine (tree_of task.now) (S.Store.extent store.old)) (steps_of run.entry) (S.Store.facts store.old) image.old call.entry }
+    ensures turn { record { steps = steps_of result.0; set = S.facts store.new; image = image.new; answer = result.1 }
+        ≡ turn_from (task_machine (tree_of task.now) (S.extent store.old)) (steps_of run.entry) (S.facts store.old) image.old call.entry }
 {
     match run {
         Some(run) => call_running(task, run, store, image, call),
@@ -108,13 +108,13 @@ pub fn play_task<S: Store>(
     calls: &[Call],
     answers: &mut [Answer],
 ) -> bool
-    ensures size { S.Store.extent store.new ≡ S.Store.extent store.old }
+    ensures size { S.extent store.new ≡ S.extent store.old }
     ensures short { length answers.old < length calls.now → (result ≡ false) × (answers.new ≡ answers.old) × (image.new ≡ image.old) × (store.new ≡ store.old) }
     ensures long { length calls.now ≤ length answers.old → result ≡ true }
-    ensures answered { result ≡ true → take (length calls.now) answers.new ≡ AnswersOf (task_machine (tree_of task.now) (S.Store.extent store.old)) (unbegun (S.Store.facts store.old) image.old) calls.now }
+    ensures answered { result ≡ true → take (length calls.now) answers.new ≡ AnswersOf (task_machine (tree_of task.now) (S.extent store.old)) (unbegun (S.facts store.old) image.old) calls.now }
     ensures rest { result ≡ true → drop (length calls.now) answers.new ≡ drop (length calls.now) answers.old }
-    ensures set { result ≡ true → S.Store.facts store.new ≡ (after (task_machine (tree_of task.now) (S.Store.extent store.old)) (unbegun (S.Store.facts store.old) image.old) calls.now).set }
-    ensures image { result ≡ true → image.new ≡ (after (task_machine (tree_of task.now) (S.Store.extent store.old)) (unbegun (S.Store.facts store.old) image.old) calls.now).image }
+    ensures set { result ≡ true → S.facts store.new ≡ (after (task_machine (tree_of task.now) (S.extent store.old)) (unbegun (S.facts store.old) image.old) calls.now).set }
+    ensures image { result ≡ true → image.new ≡ (after (task_machine (tree_of task.now) (S.extent store.old)) (unbegun (S.facts store.old) image.old) calls.now).image }
 {
     if answers.len() < calls.len() {
         return false;

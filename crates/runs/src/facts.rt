@@ -11,8 +11,8 @@ use store::Store;
 
 // Puts the facts one after the other.
 pub(crate) fn put_facts<S: Store>(task: &Task, store: &mut S)
-    ensures size { S.Store.extent store.new ≡ S.Store.extent store.old }
-    ensures set { S.Store.facts store.new ≡ put_numbers (S.Store.extent store.old) (map (λ f. number (tree_of task.now) f.predicate f.arguments) (tree_of task.now).facts) (S.Store.facts store.old) }
+    ensures size { S.extent store.new ≡ S.extent store.old }
+    ensures set { S.facts store.new ≡ put_numbers (S.extent store.old) (map (λ f. number (tree_of task.now) f.predicate f.arguments) (tree_of task.now).facts) (S.facts store.old) }
 {
     let sheet = Sheet::of(&[]);
     let mut at = task.table.sizes.types as usize + task.table.sizes.predicates as usize;

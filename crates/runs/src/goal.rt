@@ -46,8 +46,8 @@ pub(crate) fn put_changes<S: Store>(
 )
     requires image { task.now.atoms ≤ length image.now }
     requires fits { fits (tree_of task.now) (name_of name) ≡ true }
-    ensures size { S.Store.extent store.new ≡ S.Store.extent store.old }
-    ensures set { S.Store.facts store.new ≡ put_literals (S.Store.extent store.old) adds (literals_where (value (tree_of task.now) (shown image.now)) (effect_of (tree_of task.now) (name_of name.entry))) (S.Store.facts store.old) }
+    ensures size { S.extent store.new ≡ S.extent store.old }
+    ensures set { S.facts store.new ≡ put_literals (S.extent store.old) adds (literals_where (value (tree_of task.now) (shown image.now)) (effect_of (tree_of task.now) (name_of name.entry))) (S.facts store.old) }
 {
     let effect = task.effect_at[name.operator as usize];
     let mut sheet = Sheet::of(name.objects);

@@ -17,8 +17,8 @@ use store::Store;
 // Puts the literals of the window that add, or those that delete.
 fn put_window<S: Store>(store: &mut S, window: &Window, adds: bool)
     requires { window.now.len ≤ 64 }
-    ensures size { S.Store.extent store.new ≡ S.Store.extent store.old }
-    ensures set { S.Store.facts store.new ≡ put_literals (S.Store.extent store.old) adds (kept window.now) (S.Store.facts store.old) }
+    ensures size { S.extent store.new ≡ S.extent store.old }
+    ensures set { S.facts store.new ≡ put_literals (S.extent store.old) adds (kept window.now) (S.facts store.old) }
 {
     for i in 0..window.len {
         let literal = window.items[i];
@@ -43,9 +43,9 @@ pub(crate) fn put_effect<S: Store>(
     requires objects { Within task.now.table.sizes.objects (bound sheet.old depth) }
     requires stands { (e : Effect) × (j : ℕ) × EffectAt (held task.now) depth at e j }
     ensures same { sheet.new ≡ sheet.old }
-    ensures size { S.Store.extent store.new ≡ S.Store.extent store.old }
+    ensures size { S.extent store.new ≡ S.extent store.old }
     ensures set { (e : Effect) (j : ℕ) → EffectAt (held task.now) depth at e j →
-        S.Store.facts store.new ≡ put_literals (S.Store.extent store.old) adds (effect_literals (tree_of task.now) (shown image.now) (bound sheet.old depth) e) (S.Store.facts store.old) }
+        S.facts store.new ≡ put_literals (S.extent store.old) adds (effect_literals (tree_of task.now) (shown image.now) (bound sheet.old depth) e) (S.facts store.old) }
 {
     let mut from = 0;
     loop {

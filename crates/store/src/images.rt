@@ -7,7 +7,7 @@ use fault::{Cause, Fault, Layer};
 
 // Whether the first n facts of the store fit the image.
 pub fn room_for<S: Store>(store: &S, image: &[u8], n: u32) -> Result<(), Fault>
-    ensures { result ≡ copied (extent store.now) (length image.now) n }
+    ensures { result ≡ copied (S.extent store.now) (length image.now) n }
 {
     if store.size() < n {
         return Err(Fault {
@@ -28,8 +28,8 @@ pub fn room_for<S: Store>(store: &S, image: &[u8], n: u32) -> Result<(), Fault>
 
 // Copies the first n facts into an image.
 pub fn copy<S: Store>(store: &S, image: &mut [u8], n: u32) -> Result<(), Fault>
-    ensures image { image.new ≡ after_copy (extent store.now) n (facts store.now) image.old }
-    ensures answer { result ≡ copied (extent store.now) (length image.old) n }
+    ensures image { image.new ≡ after_copy (S.extent store.now) n (S.facts store.now) image.old }
+    ensures answer { result ≡ copied (S.extent store.now) (length image.old) n }
 {
     room_for(store, image, n)?;
     for k in 0..n {

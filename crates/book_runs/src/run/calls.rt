@@ -28,9 +28,9 @@ fn refuse(cause: Cause, place: u64) -> Fault
 }
 
 fn set_out<'b, 'a, S: Store>(book: &'b Book<'a>, store: &mut S) -> Result<BookRun<'b, 'a>, Fault>
-    ensures size { S.Store.extent store.new ≡ S.Store.extent store.old }
+    ensures size { S.extent store.new ≡ S.extent store.old }
     ensures book { run_of book.now result }
-    ensures begun { record { set = S.Store.facts store.new; answer = begun result } ≡ begin_by_puts (tree_of book.now) (S.Store.extent store.old) (S.Store.facts store.old) }
+    ensures begun { record { set = S.facts store.new; answer = begun result } ≡ begin_by_puts (tree_of book.now) (S.extent store.old) (S.facts store.old) }
 {
     let facts = book.facts();
     if store.size() < facts {
@@ -44,18 +44,18 @@ fn set_out<'b, 'a, S: Store>(book: &'b Book<'a>, store: &mut S) -> Result<BookRu
 impl<'b, 'a> BookRun<'b, 'a> {
     // Empties the store, puts the facts that start true, and gives a run with no step taken.
     pub fn begin<S: Store>(book: &'b Book<'a>, store: &mut S) -> Result<BookRun<'b, 'a>, Fault>
-        ensures size { S.Store.extent store.new ≡ S.Store.extent store.old }
+        ensures size { S.extent store.new ≡ S.extent store.old }
         ensures book { run_of book.now result }
-        ensures begun { record { set = S.Store.facts store.new; answer = begun result } ≡ book_begin (tree_of book.now) (S.Store.extent store.old) (S.Store.facts store.old) }
+        ensures begun { record { set = S.facts store.new; answer = begun result } ≡ book_begin (tree_of book.now) (S.extent store.old) (S.facts store.old) }
     {
         set_out(book, store)
     }
 
     fn act<S: Store>(&mut self, store: &mut S, image: &mut [u8], name: Name) -> Result<(), Fault>
         ensures book { self.new.book ≡ self.old.book }
-        ensures size { S.Store.extent store.new ≡ S.Store.extent store.old }
-        ensures performed { record { steps = self.new.steps; set = S.Store.facts store.new; image = image.new; answer = result }
-            ≡ perform_by_puts (tree_of self.old.book.now) (S.Store.extent store.old) self.old.steps (S.Store.facts store.old) image.old (name_of name.entry) }
+        ensures size { S.extent store.new ≡ S.extent store.old }
+        ensures performed { record { steps = self.new.steps; set = S.facts store.new; image = image.new; answer = result }
+            ≡ perform_by_puts (tree_of self.old.book.now) (S.extent store.old) self.old.steps (S.facts store.old) image.old (name_of name.entry) }
     {
         let steps = self.steps;
         if steps >= 65535 {
@@ -78,16 +78,16 @@ impl<'b, 'a> BookRun<'b, 'a> {
         name: Name,
     ) -> Result<(), Fault>
         ensures book { self.new.book ≡ self.old.book }
-        ensures size { S.Store.extent store.new ≡ S.Store.extent store.old }
-        ensures performed { record { steps = self.new.steps; set = S.Store.facts store.new; image = image.new; answer = result }
-            ≡ book_perform (tree_of self.old.book.now) (S.Store.extent store.old) self.old.steps (S.Store.facts store.old) image.old (name_of name.entry) }
+        ensures size { S.extent store.new ≡ S.extent store.old }
+        ensures performed { record { steps = self.new.steps; set = S.facts store.new; image = image.new; answer = result }
+            ≡ book_perform (tree_of self.old.book.now) (S.extent store.old) self.old.steps (S.facts store.old) image.old (name_of name.entry) }
     {
         self.act(store, image, name)
     }
 
     // Whether the atom is true: by its fact, or by the list of those that are always true.
     pub fn holds<S: Store>(&self, store: &S, atom: u32) -> Result<bool, Fault>
-        ensures { result ≡ book_holds (tree_of self.now.book.now) (S.Store.extent store.now) (S.Store.facts store.now) atom }
+        ensures { result ≡ book_holds (tree_of self.now.book.now) (S.extent store.now) (S.facts store.now) atom }
     {
         let book = self.book;
         let facts = book.facts();
@@ -104,7 +104,7 @@ impl<'b, 'a> BookRun<'b, 'a> {
     }
 
     fn look<S: Store>(&self, store: &S, image: &mut [u8]) -> Result<bool, Fault>
-        ensures { record { image = image.exit.now; answer = result } ≡ goal_by_image (tree_of self.now.book.now) (S.Store.extent store.now) (S.Store.facts store.now) image.entry.now }
+        ensures { record { image = image.exit.now; answer = result } ≡ goal_by_image (tree_of self.now.book.now) (S.extent store.now) (S.facts store.now) image.entry.now }
     {
         let book = self.book;
         copy(store, image, book.facts())?;
@@ -113,7 +113,7 @@ impl<'b, 'a> BookRun<'b, 'a> {
 
     // Whether the goal is true.
     pub fn goal<S: Store>(&self, store: &S, image: &mut [u8]) -> Result<bool, Fault>
-        ensures { record { image = image.exit.now; answer = result } ≡ book_goal (tree_of self.now.book.now) (S.Store.extent store.now) (S.Store.facts store.now) image.entry.now }
+        ensures { record { image = image.exit.now; answer = result } ≡ book_goal (tree_of self.now.book.now) (S.extent store.now) (S.facts store.now) image.entry.now }
     {
         self.look(store, image)
     }

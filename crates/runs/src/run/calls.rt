@@ -28,9 +28,9 @@ fn refuse(cause: Cause, place: u64) -> Fault
 }
 
 fn set_out<'t, 'a, S: Store>(task: &'t Task<'a>, store: &mut S) -> Result<TaskRun<'t, 'a>, Fault>
-    ensures size { S.Store.extent store.new ≡ S.Store.extent store.old }
+    ensures size { S.extent store.new ≡ S.extent store.old }
     ensures task { run_of task.now result }
-    ensures begun { record { set = S.Store.facts store.new; answer = begun result } ≡ begin_by_puts (tree_of task.now) (S.Store.extent store.old) (S.Store.facts store.old) }
+    ensures begun { record { set = S.facts store.new; answer = begun result } ≡ begin_by_puts (tree_of task.now) (S.extent store.old) (S.facts store.old) }
 {
     if store.size() < task.atoms {
         return Err(refuse(Cause::StoreTooSmall, task.atoms as u64));
@@ -43,18 +43,18 @@ fn set_out<'t, 'a, S: Store>(task: &'t Task<'a>, store: &mut S) -> Result<TaskRu
 impl<'t, 'a> TaskRun<'t, 'a> {
     // Empties the store, puts the facts, and gives a run with no step taken.
     pub fn begin<S: Store>(task: &'t Task<'a>, store: &mut S) -> Result<TaskRun<'t, 'a>, Fault>
-        ensures size { S.Store.extent store.new ≡ S.Store.extent store.old }
+        ensures size { S.extent store.new ≡ S.extent store.old }
         ensures task { run_of task.now result }
-        ensures begun { record { set = S.Store.facts store.new; answer = begun result } ≡ task_begin (tree_of task.now) (S.Store.extent store.old) (S.Store.facts store.old) }
+        ensures begun { record { set = S.facts store.new; answer = begun result } ≡ task_begin (tree_of task.now) (S.extent store.old) (S.facts store.old) }
     {
         set_out(task, store)
     }
 
     fn act<S: Store>(&mut self, store: &mut S, image: &mut [u8], name: Name) -> Result<(), Fault>
         ensures task { self.new.task ≡ self.old.task }
-        ensures size { S.Store.extent store.new ≡ S.Store.extent store.old }
-        ensures performed { record { steps = self.new.steps; set = S.Store.facts store.new; image = image.new; answer = result }
-            ≡ perform_by_puts (tree_of self.old.task.now) (S.Store.extent store.old) self.old.steps (S.Store.facts store.old) image.old (name_of name.entry) }
+        ensures size { S.extent store.new ≡ S.extent store.old }
+        ensures performed { record { steps = self.new.steps; set = S.facts store.new; image = image.new; answer = result }
+            ≡ perform_by_puts (tree_of self.old.task.now) (S.extent store.old) self.old.steps (S.facts store.old) image.old (name_of name.entry) }
     {
         let steps = self.steps;
         if steps >= 65535 {
@@ -84,16 +84,16 @@ impl<'t, 'a> TaskRun<'t, 'a> {
         name: Name,
     ) -> Result<(), Fault>
         ensures task { self.new.task ≡ self.old.task }
-        ensures size { S.Store.extent store.new ≡ S.Store.extent store.old }
-        ensures performed { record { steps = self.new.steps; set = S.Store.facts store.new; image = image.new; answer = result }
-            ≡ task_perform (tree_of self.old.task.now) (S.Store.extent store.old) self.old.steps (S.Store.facts store.old) image.old (name_of name.entry) }
+        ensures size { S.extent store.new ≡ S.extent store.old }
+        ensures performed { record { steps = self.new.steps; set = S.facts store.new; image = image.new; answer = result }
+            ≡ task_perform (tree_of self.old.task.now) (S.extent store.old) self.old.steps (S.facts store.old) image.old (name_of name.entry) }
     {
         self.act(store, image, name)
     }
 
     // Whether the atom is true.
     pub fn holds<S: Store>(&self, store: &S, atom: u32) -> Result<bool, Fault>
-        ensures { result ≡ task_holds (tree_of self.now.task.now) (S.Store.extent store.now) (S.Store.facts store.now) atom }
+        ensures { result ≡ task_holds (tree_of self.now.task.now) (S.extent store.now) (S.facts store.now) atom }
     {
         let atoms = self.task.atoms;
         if store.size() < atoms {
@@ -106,7 +106,7 @@ impl<'t, 'a> TaskRun<'t, 'a> {
     }
 
     fn look<S: Store>(&self, store: &S, image: &mut [u8]) -> Result<bool, Fault>
-        ensures { record { image = image.exit.now; answer = result } ≡ goal_by_image (tree_of self.now.task.now) (S.Store.extent store.now) (S.Store.facts store.now) image.entry.now }
+        ensures { record { image = image.exit.now; answer = result } ≡ goal_by_image (tree_of self.now.task.now) (S.extent store.now) (S.facts store.now) image.entry.now }
     {
         let task = self.task;
         let atoms = task.atoms;
@@ -116,7 +116,7 @@ impl<'t, 'a> TaskRun<'t, 'a> {
 
     // Whether the goal is true.
     pub fn goal<S: Store>(&self, store: &S, image: &mut [u8]) -> Result<bool, Fault>
-        ensures { record { image = image.exit.now; answer = result } ≡ task_goal (tree_of self.now.task.now) (S.Store.extent store.now) (S.Store.facts store.now) image.entry.now }
+        ensures { record { image = image.exit.now; answer = result } ≡ task_goal (tree_of self.now.task.now) (S.extent store.now) (S.facts store.now) image.entry.now }
     {
         self.look(store, image)
     }

@@ -7,39 +7,39 @@ use Rattle.table.proofs.Answering.{many_refused, many_turn, many_over}
 use Rattle.adl.proofs.Parts.{consequent_refused, consequent_too_deep, consequent_goes, after_and, after_outcome}
 use Rattle.adl.proofs.check.+check_consequent.Goals as goal
 
-pub returns-in-err-head : goal.returns-in-err-head
-returns-in-err-head d c =
+pub returns-in_err-head : goal.returns-in_err-head
+returns-in_err-head d c =
     let t = table c.args.table.now in
     let a = around c.args.around in
-    let p = err_from_is_err_and c.from-residual.result c.from-residual.ensures.1 in
-    p.1 ∙ ap Err p.2 ∙ consequent_refused t c.args.room a c.args.at c.in-err-head.field-0.0 c.in-err-head.ensures.same
+    let p = err_from_is_err_and c.from_residual.result c.from_residual.ensures.1 in
+    p.1 ∙ ap Err p.2 ∙ consequent_refused t c.args.room a c.args.at c.in_err-head.field-0.0 c.in_err-head.ensures.same
 
 pub returns-then-room-eq0 : goal.returns-then-room-eq0
 returns-then-room-eq0 d c =
     let t = table c.args.table.now in
     let a = around c.args.around in
-    ap Err c.refuse.ensures ∙ consequent_too_deep t c.args.room a c.args.at (coded c.in-ok-head.head) c.if-room-eq0.true c.in-ok-head.ensures.same
+    ap Err c.refuse.ensures ∙ consequent_too_deep t c.args.room a c.args.at (coded c.in_ok-head.head) c.if-room-eq0.true c.in_ok-head.ensures.same
 
-pub returns-in-err-next : goal.returns-in-err-next
-returns-in-err-next d c =
+pub returns-in_err-next : goal.returns-in_err-next
+returns-in_err-next d c =
     let t = table c.args.table.now in
     let a = around c.args.around in
     let r = consequent t (c.args.room - 1) a in
-    let k = c.in-ok-head.head.kind in
-    let o = c.in-ok-head.head.operand in
-    let p = err_from_is_err_and c.from-residual-in-err-next.result c.from-residual-in-err-next.ensures.1 in
+    let k = c.in_ok-head.head.kind in
+    let o = c.in_ok-head.head.operand in
+    let p = err_from_is_err_and c.from_residual-in_err-next.result c.from_residual-in_err-next.ensures.1 in
     p.1 ∙ ap Err p.2
-    ∙ many_refused layer.Task r (o - c.loop-k.-k) c.loop-k.next c.in-err-next.field-0.0 (omega arith) c.in-err-next.ensures
+    ∙ many_refused layer.Task r (o - c.loop-k._k) c.loop-k.next c.in_err-next.field-0.0 (omega arith) c.in_err-next.ensures
     ∙ c.loop-k.invariant
     ∙ after_and t r a k o (c.args.at + 1) c.in-And.is
-    ∙ consequent_goes t c.args.room a c.args.at (coded c.in-ok-head.head) (omega arith) c.in-ok-head.ensures.same
+    ∙ consequent_goes t c.args.room a c.args.at (coded c.in_ok-head.head) (omega arith) c.in_ok-head.ensures.same
 
 pub loop-k-preserved : goal.loop-k-preserved
 loop-k-preserved d c =
     let t = table c.args.table.now in
     let a = around c.args.around in
     let r = consequent t (c.args.room - 1) a in
-    many_turn layer.Task r c.in-ok-head.head.operand c.loop-k.-k c.loop-k.next c.in-ok-next.next (omega arith) c.in-ok-next.ensures
+    many_turn layer.Task r c.in_ok-head.head.operand c.loop-k._k c.loop-k.next c.in_ok-next.next (omega arith) c.in_ok-next.ensures
     ∙ c.loop-k.invariant
 
 pub returns-after-loop-k : goal.returns-after-loop-k
@@ -47,20 +47,20 @@ returns-after-loop-k d c =
     let t = table c.args.table.now in
     let a = around c.args.around in
     let r = consequent t (c.args.room - 1) a in
-    let k = c.in-ok-head.head.kind in
-    let o = c.in-ok-head.head.operand in
-    sym (many_over layer.Task r (o - c.loop-k.-k) c.loop-k.next (omega arith))
+    let k = c.in_ok-head.head.kind in
+    let o = c.in_ok-head.head.operand in
+    sym (many_over layer.Task r (o - c.loop-k._k) c.loop-k.next (omega arith))
     ∙ c.loop-k.invariant
     ∙ after_and t r a k o (c.args.at + 1) c.in-And.is
-    ∙ consequent_goes t c.args.room a c.args.at (coded c.in-ok-head.head) (omega arith) c.in-ok-head.ensures.same
+    ∙ consequent_goes t c.args.room a c.args.at (coded c.in_ok-head.head) (omega arith) c.in_ok-head.ensures.same
 
-pub returns-in-default : goal.returns-in-default
-returns-in-default d c =
+pub returns-in_default : goal.returns-in_default
+returns-in_default d c =
     let t = table c.args.table.now in
     let a = around c.args.around in
     let r = consequent t (c.args.room - 1) a in
-    let k = c.in-ok-head.head.kind in
-    let o = c.in-ok-head.head.operand in
-    c.check-change.ensures
-    ∙ after_outcome t r a k o (c.args.at + 1) c.in-default.not-And
-    ∙ consequent_goes t c.args.room a c.args.at (coded c.in-ok-head.head) (omega arith) c.in-ok-head.ensures.same
+    let k = c.in_ok-head.head.kind in
+    let o = c.in_ok-head.head.operand in
+    c.check_change.ensures
+    ∙ after_outcome t r a k o (c.args.at + 1) c.in_default.not-And
+    ∙ consequent_goes t c.args.room a c.args.at (coded c.in_ok-head.head) (omega arith) c.in_ok-head.ensures.same

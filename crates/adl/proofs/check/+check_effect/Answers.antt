@@ -7,39 +7,39 @@ use Rattle.table.proofs.Answering.{many_refused, many_turn, many_over}
 use Rattle.adl.proofs.Parts.{effect_refused, effect_too_deep, effect_goes, after_conjunction, after_forall, after_when, when_refused, after_change}
 use Rattle.adl.proofs.check.+check_effect.Goals as goal
 
-pub returns-in-err-head : goal.returns-in-err-head
-returns-in-err-head d c =
+pub returns-in_err-head : goal.returns-in_err-head
+returns-in_err-head d c =
     let t = table c.args.table.now in
     let a = around c.args.around in
-    let p = err_from_is_err_and c.from-residual.result c.from-residual.ensures.1 in
-    p.1 ∙ ap Err p.2 ∙ effect_refused t c.args.room a c.args.at c.in-err-head.field-0.0 c.in-err-head.ensures.same
+    let p = err_from_is_err_and c.from_residual.result c.from_residual.ensures.1 in
+    p.1 ∙ ap Err p.2 ∙ effect_refused t c.args.room a c.args.at c.in_err-head.field-0.0 c.in_err-head.ensures.same
 
 pub returns-then-room-eq0 : goal.returns-then-room-eq0
 returns-then-room-eq0 d c =
     let t = table c.args.table.now in
     let a = around c.args.around in
-    ap Err c.refuse.ensures ∙ effect_too_deep t c.args.room a c.args.at (coded c.in-ok-head.head) c.if-room-eq0.true c.in-ok-head.ensures.same
+    ap Err c.refuse.ensures ∙ effect_too_deep t c.args.room a c.args.at (coded c.in_ok-head.head) c.if-room-eq0.true c.in_ok-head.ensures.same
 
-pub returns-in-err-next : goal.returns-in-err-next
-returns-in-err-next d c =
+pub returns-in_err-next : goal.returns-in_err-next
+returns-in_err-next d c =
     let t = table c.args.table.now in
     let a = around c.args.around in
     let r = effect t (c.args.room - 1) in
-    let k = c.in-ok-head.head.kind in
-    let o = c.in-ok-head.head.operand in
-    let p = err_from_is_err_and c.from-residual-in-err-next.result c.from-residual-in-err-next.ensures.1 in
+    let k = c.in_ok-head.head.kind in
+    let o = c.in_ok-head.head.operand in
+    let p = err_from_is_err_and c.from_residual-in_err-next.result c.from_residual-in_err-next.ensures.1 in
     p.1 ∙ ap Err p.2
-    ∙ many_refused layer.Task (r a) (o - c.loop-k.-k) c.loop-k.next c.in-err-next.field-0.0 (omega arith) c.in-err-next.ensures
+    ∙ many_refused layer.Task (r a) (o - c.loop-k._k) c.loop-k.next c.in_err-next.field-0.0 (omega arith) c.in_err-next.ensures
     ∙ c.loop-k.invariant
     ∙ after_conjunction t r a k o (c.args.at + 1) c.in-And.is
-    ∙ effect_goes t c.args.room a c.args.at (coded c.in-ok-head.head) (omega arith) c.in-ok-head.ensures.same
+    ∙ effect_goes t c.args.room a c.args.at (coded c.in_ok-head.head) (omega arith) c.in_ok-head.ensures.same
 
 pub loop-k-preserved : goal.loop-k-preserved
 loop-k-preserved d c =
     let t = table c.args.table.now in
     let a = around c.args.around in
     let r = effect t (c.args.room - 1) in
-    many_turn layer.Task (r a) c.in-ok-head.head.operand c.loop-k.-k c.loop-k.next c.in-ok-next.next (omega arith) c.in-ok-next.ensures
+    many_turn layer.Task (r a) c.in_ok-head.head.operand c.loop-k._k c.loop-k.next c.in_ok-next.next (omega arith) c.in_ok-next.ensures
     ∙ c.loop-k.invariant
 
 pub returns-after-loop-k : goal.returns-after-loop-k
@@ -47,55 +47,55 @@ returns-after-loop-k d c =
     let t = table c.args.table.now in
     let a = around c.args.around in
     let r = effect t (c.args.room - 1) in
-    let k = c.in-ok-head.head.kind in
-    let o = c.in-ok-head.head.operand in
-    sym (many_over layer.Task (r a) (o - c.loop-k.-k) c.loop-k.next (omega arith))
+    let k = c.in_ok-head.head.kind in
+    let o = c.in_ok-head.head.operand in
+    sym (many_over layer.Task (r a) (o - c.loop-k._k) c.loop-k.next (omega arith))
     ∙ c.loop-k.invariant
     ∙ after_conjunction t r a k o (c.args.at + 1) c.in-And.is
-    ∙ effect_goes t c.args.room a c.args.at (coded c.in-ok-head.head) (omega arith) c.in-ok-head.ensures.same
+    ∙ effect_goes t c.args.room a c.args.at (coded c.in_ok-head.head) (omega arith) c.in_ok-head.ensures.same
 
 pub returns-in-Forall : goal.returns-in-Forall
 returns-in-Forall d c =
     let t = table c.args.table.now in
     let a = around c.args.around in
     let r = effect t (c.args.room - 1) in
-    let k = c.in-ok-head.head.kind in
-    let o = c.in-ok-head.head.operand in
-    c.check-effect-in-Forall.ensures
+    let k = c.in_ok-head.head.kind in
+    let o = c.in_ok-head.head.operand in
+    c.check_effect-in-Forall.ensures
     ∙ ap (λ x. answer (r x (c.args.at + 1))) c.deeper.ensures
     ∙ after_forall t r a k o (c.args.at + 1) c.in-Forall.is
-    ∙ effect_goes t c.args.room a c.args.at (coded c.in-ok-head.head) (omega arith) c.in-ok-head.ensures.same
+    ∙ effect_goes t c.args.room a c.args.at (coded c.in_ok-head.head) (omega arith) c.in_ok-head.ensures.same
 
-pub returns-in-err-consequent : goal.returns-in-err-consequent
-returns-in-err-consequent d c =
+pub returns-in_err-consequent : goal.returns-in_err-consequent
+returns-in_err-consequent d c =
     let t = table c.args.table.now in
     let a = around c.args.around in
     let r = effect t (c.args.room - 1) in
-    let k = c.in-ok-head.head.kind in
-    let o = c.in-ok-head.head.operand in
-    let p = err_from_is_err_and c.from-residual-in-err-consequent.result c.from-residual-in-err-consequent.ensures.1 in
+    let k = c.in_ok-head.head.kind in
+    let o = c.in_ok-head.head.operand in
+    let p = err_from_is_err_and c.from_residual-in_err-consequent.result c.from_residual-in_err-consequent.ensures.1 in
     p.1 ∙ ap Err p.2
-    ∙ when_refused t r a k o (c.args.at + 1) c.in-When.is c.in-err-consequent.field-0.0 c.in-err-consequent.ensures
-    ∙ effect_goes t c.args.room a c.args.at (coded c.in-ok-head.head) (omega arith) c.in-ok-head.ensures.same
+    ∙ when_refused t r a k o (c.args.at + 1) c.in-When.is c.in_err-consequent.field-0.0 c.in_err-consequent.ensures
+    ∙ effect_goes t c.args.room a c.args.at (coded c.in_ok-head.head) (omega arith) c.in_ok-head.ensures.same
 
-pub returns-in-ok-consequent : goal.returns-in-ok-consequent
-returns-in-ok-consequent d c =
+pub returns-in_ok-consequent : goal.returns-in_ok-consequent
+returns-in_ok-consequent d c =
     let t = table c.args.table.now in
     let a = around c.args.around in
     let r = effect t (c.args.room - 1) in
-    let k = c.in-ok-head.head.kind in
-    let o = c.in-ok-head.head.operand in
-    c.check-consequent.ensures
-    ∙ after_when t r a k o (c.args.at + 1) c.in-When.is c.in-ok-consequent.consequent c.in-ok-consequent.ensures
-    ∙ effect_goes t c.args.room a c.args.at (coded c.in-ok-head.head) (omega arith) c.in-ok-head.ensures.same
+    let k = c.in_ok-head.head.kind in
+    let o = c.in_ok-head.head.operand in
+    c.check_consequent.ensures
+    ∙ after_when t r a k o (c.args.at + 1) c.in-When.is c.in_ok-consequent.consequent c.in_ok-consequent.ensures
+    ∙ effect_goes t c.args.room a c.args.at (coded c.in_ok-head.head) (omega arith) c.in_ok-head.ensures.same
 
-pub returns-in-default : goal.returns-in-default
-returns-in-default d c =
+pub returns-in_default : goal.returns-in_default
+returns-in_default d c =
     let t = table c.args.table.now in
     let a = around c.args.around in
     let r = effect t (c.args.room - 1) in
-    let k = c.in-ok-head.head.kind in
-    let o = c.in-ok-head.head.operand in
-    c.check-change.ensures
-    ∙ after_change t r a k o (c.args.at + 1) c.in-default.not-And c.in-default.not-Forall c.in-default.not-When
-    ∙ effect_goes t c.args.room a c.args.at (coded c.in-ok-head.head) (omega arith) c.in-ok-head.ensures.same
+    let k = c.in_ok-head.head.kind in
+    let o = c.in_ok-head.head.operand in
+    c.check_change.ensures
+    ∙ after_change t r a k o (c.args.at + 1) c.in_default.not-And c.in_default.not-Forall c.in_default.not-When
+    ∙ effect_goes t c.args.room a c.args.at (coded c.in_ok-head.head) (omega arith) c.in_ok-head.ensures.same

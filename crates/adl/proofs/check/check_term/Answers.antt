@@ -10,12 +10,12 @@ use Rattle.table.proofs.Answering.{head_refused}
 use Rattle.adl.proofs.Heads.{head_goes}
 use Rattle.adl.proofs.check.check_term.Goals as goal
 
-pub returns-in-err-head-at : goal.returns-in-err-head-at
-returns-in-err-head-at c =
-    let p = err_from_is_err_and c.from-residual.result c.from-residual.ensures.1 in
+pub returns-in_err-head_at : goal.returns-in_err-head_at
+returns-in_err-head_at c =
+    let p = err_from_is_err_and c.from_residual.result c.from_residual.ensures.1 in
     p.1 ∙ ap Err p.2
-    ∙ head_refused layer.Task (head (table c.args.table.now) place.Term (around c.args.around) c.args.at) (λ e j. good (term_of e) j) c.in-err-head-at.field-0.0 c.in-err-head-at.ensures.same
+    ∙ head_refused layer.Task (head (table c.args.table.now) place.Term (around c.args.around) c.args.at) (λ e j. good (term_of e) j) c.in_err-head_at.field-0.0 c.in_err-head_at.ensures.same
 
 pub returns : goal.returns
 returns c =
-    head_goes (table c.args.table.now) place.Term (around c.args.around) c.args.at (coded c.in-ok-head-at.field-0) (λ e j. good (term_of e) j) c.in-ok-head-at.ensures.same
+    head_goes (table c.args.table.now) place.Term (around c.args.around) c.args.at (coded c.in_ok-head_at.field-0) (λ e j. good (term_of e) j) c.in_ok-head_at.ensures.same

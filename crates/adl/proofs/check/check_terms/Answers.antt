@@ -7,16 +7,16 @@ use Rattle.fault.specs.declared.Layer.TheVariants as layer
 use Rattle.table.proofs.Answering.{many_refused, many_turn}
 use Rattle.adl.proofs.check.check_terms.Goals as goal
 
-pub returns-in-err-next : goal.returns-in-err-next
-returns-in-err-next c =
+pub returns-in_err-next : goal.returns-in_err-next
+returns-in_err-next c =
     let t = table c.args.table.now in
-    let p = err_from_is_err_and c.from-residual.result c.from-residual.ensures.1 in
+    let p = err_from_is_err_and c.from_residual.result c.from_residual.ensures.1 in
     p.1 ∙ ap Err p.2
-    ∙ many_refused layer.Task (term t (around c.args.around)) (arity t c.args.predicate - c.loop-k.-k) c.loop-k.next c.in-err-next.field-0.0 (omega arith) c.in-err-next.ensures
+    ∙ many_refused layer.Task (term t (around c.args.around)) (arity t c.args.predicate - c.loop-k._k) c.loop-k.next c.in_err-next.field-0.0 (omega arith) c.in_err-next.ensures
     ∙ c.loop-k.invariant
 
 pub loop-k-preserved : goal.loop-k-preserved
 loop-k-preserved c =
     let t = table c.args.table.now in
-    many_turn layer.Task (term t (around c.args.around)) (arity t c.args.predicate) c.loop-k.-k c.loop-k.next c.in-ok-next.next (omega arith) c.in-ok-next.ensures
+    many_turn layer.Task (term t (around c.args.around)) (arity t c.args.predicate) c.loop-k._k c.loop-k.next c.in_ok-next.next (omega arith) c.in_ok-next.ensures
     ∙ c.loop-k.invariant

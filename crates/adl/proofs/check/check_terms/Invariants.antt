@@ -8,5 +8,5 @@ use Rattle.adl.proofs.check.check_terms.Given as goal
 -- the terms that are left, read from here, answer as all terms do
 abbrev pub invariant-loop-k : goal.invariant-loop-k
 invariant-loop-k l =
-    answer (many (term (table l.table) (around l.around)) (arity (table l.table) l.predicate - l.-k) l.next)
+    answer (many (term (table l.table) (around l.around)) (arity (table l.table) l.predicate - l._k) l.next)
     ≡ answer (many (term (table l.table) (around l.around)) (arity (table l.table) l.predicate) l.at)

@@ -9,13 +9,13 @@ use Rattle.table.proofs.Answering.{place_after, many_refused, many_turn, many_ov
 use Rattle.adl.proofs.Operators.{starts_noted, others_noted, all_starts_noted, all_others_noted}
 use Rattle.adl.proofs.declare.check_operators.Goals as goal
 
-pub returns-in-err-one : goal.returns-in-err-one
-returns-in-err-one c =
+pub returns-in_err-one : goal.returns-in_err-one
+returns-in_err-one c =
     let t = table c.args.table.now in
-    let p = err_from_is_err_and c.from-residual.result c.from-residual.ensures.1 in
+    let p = err_from_is_err_and c.from_residual.result c.from_residual.ensures.1 in
     let e = p.1 ∙ ap Err p.2 in
     record {
-      same = ap operators_end e ∙ many_refused layer.Task (operator t) (t.operators - c.loop-i.i) c.loop-i.all.end c.in-err-one.field-0.0 (omega arith) c.in-err-one.ensures.same ∙ c.loop-i.invariant.0;
+      same = ap operators_end e ∙ many_refused layer.Task (operator t) (t.operators - c.loop-i.i) c.loop-i.all.end c.in_err-one.field-0.0 (omega arith) c.in_err-one.ensures.same ∙ c.loop-i.invariant.0;
       starts = made_refused _ _ _ e;
       effects = made_refused _ _ _ e;
     }
@@ -25,17 +25,17 @@ loop-i-preserved c =
     let t = table c.args.table.now in
     let i = c.loop-i.i in
     let from = c.loop-i.all.end in
-    let to = c.in-ok-one.one.end in
+    let to = c.in_ok-one.one.end in
     let ss = c.loop-i.all.starts in
     let es = c.loop-i.all.effects in
-    let h = c.in-ok-one.ensures in
+    let h = c.in_ok-one.ensures in
     let n : i < length ss = omega arith in
     let m : i < length es = omega arith in (
       many_turn layer.Task (operator t) t.operators i from to c.loop-i-test.true h.same ∙ c.loop-i.invariant.0,
       starts_noted (operator t) t.operators i from to ss (starts (operator t) t.operators c.args.at) c.loop-i-test.true n (place_after layer.Task (operator t from) to h.same) c.loop-i.invariant.1,
-      others_noted (effect_place t) i from c.in-ok-one.one.effect ss es n m h.effect c.loop-i.invariant.2,
+      others_noted (effect_place t) i from c.in_ok-one.one.effect ss es n m h.effect c.loop-i.invariant.2,
       length-set ss i from ∙ c.loop-i.invariant.3,
-      length-set es i c.in-ok-one.one.effect ∙ c.loop-i.invariant.4,
+      length-set es i c.in_ok-one.one.effect ∙ c.loop-i.invariant.4,
     )
 
 pub returns : goal.returns

@@ -6,18 +6,18 @@ use Rattle.adl.specs.Views.{table, coded, answer, heading}
 use Rattle.adl.proofs.Declared.{power_found, predicate_goes}
 use Rattle.adl.proofs.declare.check_predicate.Goals as goal
 
-pub overflow-add-before : goal.overflow-add-before
-overflow-add-before c =
-    let w = power_found c.args.table.now.sizes.objects c.in-ok-head.head.operand c.in-Some.own_val c.in-Some.ensures in
+pub overflow_add-before : goal.overflow_add-before
+overflow_add-before c =
+    let w = power_found c.args.table.now.sizes.objects c.in_ok-head.head.operand c.in-Some.own_val c.in-Some.ensures in
     omega (arith, w.1)
 
 pub returns : goal.returns
 returns c =
     let t = table c.args.table.now in
-    let o = c.in-ok-head.head.operand in
+    let o = c.in_ok-head.head.operand in
     let w = power_found t.objects o c.in-Some.own_val c.in-Some.ensures in
     let few : c.args.before + t.objects ^ o ≤ 65536 = omega (arith, w.0) in
-    let r = predicate_goes t c.args.before c.args.at (coded c.in-ok-head.head) (c.in-ok-head.ensures.same ∙ ap (λ a. heading (head t place.Predicate a c.args.at)) c.outermost.ensures) few in
+    let r = predicate_goes t c.args.before c.args.at (coded c.in_ok-head.head) (c.in_ok-head.ensures.same ∙ ap (λ a. heading (head t place.Predicate a c.args.at)) c.outermost.ensures) few in
     record {
       same = sym (ap (λ x. answer x) r);
       counted = λ a j e. let q : good o (c.args.at + 1) ≡ good a j = sym r ∙ e in let z : o ≡ a = cc in ap (λ x. c.args.before + x) w.0 ∙ ap (λ x. c.args.before + t.objects ^ x) z;

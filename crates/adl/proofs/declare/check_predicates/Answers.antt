@@ -15,13 +15,13 @@ loop-k-init c =
     let n : t.predicates - 0 ≡ t.predicates = omega arith in
     (omega arith, ap (λ x. answer (series (predicate t) (with_atoms t) x 0 c.args.at)) n, counts_none t 0 c.args.at t.predicates refl)
 
-pub returns-in-err-so-far : goal.returns-in-err-so-far
-returns-in-err-so-far c =
+pub returns-in_err-so_far : goal.returns-in_err-so_far
+returns-in_err-so_far c =
     let t = table c.args.table.now in
-    let p = err_from_is_err_and c.from-residual.result c.from-residual.ensures.1 in
+    let p = err_from_is_err_and c.from_residual.result c.from_residual.ensures.1 in
     let e = p.1 ∙ ap Err p.2 in
     record {
-      same = ap predicates_end e ∙ series_refused layer.Task (predicate t) (with_atoms t) (t.predicates - c.loop-k.-k) c.loop-k.so_far.atoms c.loop-k.so_far.end c.in-err-so-far.field-0.0 (omega arith) c.in-err-so-far.ensures.same ∙ c.loop-k.invariant.1;
+      same = ap predicates_end e ∙ series_refused layer.Task (predicate t) (with_atoms t) (t.predicates - c.loop-k._k) c.loop-k.so_far.atoms c.loop-k.so_far.end c.in_err-so_far.field-0.0 (omega arith) c.in_err-so_far.ensures.same ∙ c.loop-k.invariant.1;
       counted = made_refused _ _ _ e;
       few = made_refused _ _ _ e;
     }
@@ -30,11 +30,11 @@ pub loop-k-preserved : goal.loop-k-preserved
 loop-k-preserved c =
     let t = table c.args.table.now in
     let s = c.loop-k.so_far in
-    let r = c.in-ok-so-far.so_far in
-    let f = c.in-ok-so-far.ensures in (
+    let r = c.in_ok-so_far.so_far in
+    let f = c.in_ok-so_far.ensures in (
       f.few,
-      predicates_turn t t.predicates c.loop-k.-k s.atoms s.end r.atoms r.end (omega arith) f.same f.counted ∙ c.loop-k.invariant.1,
-      counts_turn t t.predicates c.loop-k.-k s.atoms s.end r.atoms r.end (series (predicate t) (with_atoms t) t.predicates 0 c.args.at) (omega arith) f.same f.counted c.loop-k.invariant.2,
+      predicates_turn t t.predicates c.loop-k._k s.atoms s.end r.atoms r.end (omega arith) f.same f.counted ∙ c.loop-k.invariant.1,
+      counts_turn t t.predicates c.loop-k._k s.atoms s.end r.atoms r.end (series (predicate t) (with_atoms t) t.predicates 0 c.args.at) (omega arith) f.same f.counted c.loop-k.invariant.2,
     )
 
 pub returns : goal.returns
@@ -42,7 +42,7 @@ returns c =
     let t = table c.args.table.now in
     let s = c.loop-k.so_far in
     record {
-      same = sym (series_over layer.Task (predicate t) (with_atoms t) (t.predicates - c.loop-k.-k) s.atoms s.end (omega arith)) ∙ c.loop-k.invariant.1;
-      counted = counts_all t (t.predicates - c.loop-k.-k) s.atoms s.end (series (predicate t) (with_atoms t) t.predicates 0 c.args.at) (omega arith) c.loop-k.invariant.2;
+      same = sym (series_over layer.Task (predicate t) (with_atoms t) (t.predicates - c.loop-k._k) s.atoms s.end (omega arith)) ∙ c.loop-k.invariant.1;
+      counted = counts_all t (t.predicates - c.loop-k._k) s.atoms s.end (series (predicate t) (with_atoms t) t.predicates 0 c.args.at) (omega arith) c.loop-k.invariant.2;
       few = c.loop-k.invariant.0;
     }

@@ -8,7 +8,7 @@ use Rattle.adl.proofs.declare.check_predicates.Given as goal
 -- the predicates that are left, read from here, answer as all predicates do, and with the atoms so far they make the whole
 abbrev pub invariant-loop-k : goal.invariant-loop-k
 invariant-loop-k l =
-    (l.so-far.atoms ≤ 65536)
-    × (answer (series (predicate (table l.table)) (with_atoms (table l.table)) (l.table.sizes.predicates - l.-k) l.so-far.atoms l.so-far.end)
+    (l.so_far.atoms ≤ 65536)
+    × (answer (series (predicate (table l.table)) (with_atoms (table l.table)) (l.table.sizes.predicates - l._k) l.so_far.atoms l.so_far.end)
     ≡ answer (series (predicate (table l.table)) (with_atoms (table l.table)) l.table.sizes.predicates 0 l.at))
-    × Counts (table l.table) (l.table.sizes.predicates - l.-k) l.so-far.atoms l.so-far.end (series (predicate (table l.table)) (with_atoms (table l.table)) l.table.sizes.predicates 0 l.at)
+    × Counts (table l.table) (l.table.sizes.predicates - l._k) l.so_far.atoms l.so_far.end (series (predicate (table l.table)) (with_atoms (table l.table)) l.table.sizes.predicates 0 l.at)

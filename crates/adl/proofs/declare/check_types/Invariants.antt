@@ -7,5 +7,5 @@ use Rattle.adl.proofs.declare.check_types.Given as goal
 -- the types that are left, read from here, answer as all types do
 abbrev pub invariant-loop-k : goal.invariant-loop-k
 invariant-loop-k l =
-    answer (many (type_set (table l.table)) (l.table.sizes.types - l.-k) l.next)
+    answer (many (type_set (table l.table)) (l.table.sizes.types - l._k) l.next)
     ≡ answer (many (type_set (table l.table)) l.table.sizes.types 0)

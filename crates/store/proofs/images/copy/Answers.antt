@@ -9,7 +9,7 @@ loop-k-preserved g c =
     let s = c.args.store.now in
     let k = c.loop-k.k in
     let b = c.in-Ok.there in
-    let room = room_from_ok (m.extent s) (length c.args.image.now) c.args.n _ c.in-ok-room-for.ensures in
+    let room = room_from_ok (m.extent s) (length c.args.image.now) c.args.n _ c.in_ok-room_for.ensures in
     let lt : k < m.extent s = omega (arith, room.0) in
     let inside : k < length c.args.image.now = omega (arith, room.1) in
     ap (λ l. set l k (bool_byte b)) c.loop-k.invariant ∙ pictured_more (m.facts s) c.args.image.now k b inside (answered_is (m.extent s) k (m.facts s k) b lt c.in-Ok.ensures)

@@ -13,7 +13,7 @@ loop-k-preserved g c =
     let i = c.loop-k.k-index in
     let x = get_or xs i 0 in
     let inv = c.loop-k.invariant in
-    let answer : answered n x tt ≡ Ok tt = subst (λ q. answered q x tt ≡ Ok tt) inv.0 (sym c.put.ensures.answer ∙ c.in-ok-put.was) in
+    let answer : answered n x tt ≡ Ok tt = subst (λ q. answered q x tt ≡ Ok tt) inv.0 (sym c.put.ensures.answer ∙ c.in_ok-put.was) in
     let lt : x < n = in_from_ok n x tt tt answer in
     let set : m.facts c.put.new.self ≡ after_put n (m.facts c.loop-k.store) x true = subst (λ q. m.facts c.put.new.self ≡ after_put q (m.facts c.loop-k.store) x true) inv.0 c.put.ensures.set in (
       c.put.ensures.size ∙ inv.0,
@@ -21,19 +21,19 @@ loop-k-preserved g c =
       sym (answered_all_more n xs i c.loop-k-test.true lt) ∙ inv.2,
     )
 
-pub returns-in-err-put : goal.returns-in-err-put
-returns-in-err-put g c =
+pub returns-in_err-put : goal.returns-in_err-put
+returns-in_err-put g c =
     let m = g.S.Store in
     let n = m.extent c.args.store.now in
     let xs = c.args.numbers.now in
     let i = c.loop-k.k-index in
     let x = get_or xs i 0 in
     let inv = c.loop-k.invariant in
-    let f = c.in-err-put.field-0.0 in
-    let answer : answered n x tt ≡ Err f = subst (λ q. answered q x tt ≡ Err f) inv.0 (sym c.put.ensures.answer ∙ c.in-err-put.was) in
+    let f = c.in_err-put.field-0.0 in
+    let answer : answered n x tt ≡ Err f = subst (λ q. answered q x tt ≡ Err f) inv.0 (sym c.put.ensures.answer ∙ c.in_err-put.was) in
     let out = out_from_err n x tt f answer in
     let set : m.facts c.put.new.self ≡ after_put n (m.facts c.loop-k.store) x true = subst (λ q. m.facts c.put.new.self ≡ after_put q (m.facts c.loop-k.store) x true) inv.0 c.put.ensures.set in
-    let p = err_from_is_err_and c.from-residual.result c.from-residual.ensures.1 in
+    let p = err_from_is_err_and c.from_residual.result c.from_residual.ensures.1 in
     record {
       size = c.put.ensures.size ∙ inv.0;
       set = set ∙ sym (put_out n (m.facts c.loop-k.store) x true out.0) ∙ sym (put_all_stop n xs i c.loop-k-test.true (m.facts c.loop-k.store) out.0) ∙ inv.1;

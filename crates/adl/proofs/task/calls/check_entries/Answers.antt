@@ -6,58 +6,58 @@ use Rattle.adl.specs.Views.{table, answer}
 use Rattle.adl.proofs.Whole.{all_refused, types_refused, predicates_refused, facts_refused, goal_refused, operators_refused, left_over, all_read}
 use Rattle.adl.proofs.task.calls.check_entries.Goals as goal
 
-pub returns-in-err-predicates-at : goal.returns-in-err-predicates-at
-returns-in-err-predicates-at c =
+pub returns-in_err-predicates_at : goal.returns-in_err-predicates_at
+returns-in_err-predicates_at c =
     let t = table c.args.table.now in
-    let p = err_from_is_err_and c.from-residual.result c.from-residual.ensures.1 in
-    let w = all_refused t c.from-residual.result c.in-err-predicates-at.field-0.0 (p.1 ∙ ap Err p.2) (types_refused t c.in-err-predicates-at.field-0.0 c.in-err-predicates-at.ensures) in
+    let p = err_from_is_err_and c.from_residual.result c.from_residual.ensures.1 in
+    let w = all_refused t c.from_residual.result c.in_err-predicates_at.field-0.0 (p.1 ∙ ap Err p.2) (types_refused t c.in_err-predicates_at.field-0.0 c.in_err-predicates_at.ensures) in
     record { same = w.same; placed = w.placed }
 
-pub returns-in-err-predicates : goal.returns-in-err-predicates
-returns-in-err-predicates c =
+pub returns-in_err-predicates : goal.returns-in_err-predicates
+returns-in_err-predicates c =
     let t = table c.args.table.now in
-    let p = err_from_is_err_and c.from-residual-in-err-predicates.result c.from-residual-in-err-predicates.ensures.1 in
-    let w = all_refused t c.from-residual-in-err-predicates.result c.in-err-predicates.field-0.0 (p.1 ∙ ap Err p.2) (predicates_refused t c.in-ok-predicates-at.predicates-at c.in-ok-predicates-at.ensures c.in-err-predicates.field-0.0 c.in-err-predicates.ensures.same) in
+    let p = err_from_is_err_and c.from_residual-in_err-predicates.result c.from_residual-in_err-predicates.ensures.1 in
+    let w = all_refused t c.from_residual-in_err-predicates.result c.in_err-predicates.field-0.0 (p.1 ∙ ap Err p.2) (predicates_refused t c.in_ok-predicates_at.predicates_at c.in_ok-predicates_at.ensures c.in_err-predicates.field-0.0 c.in_err-predicates.ensures.same) in
     record { same = w.same; placed = w.placed }
 
-pub returns-in-err-goal-at : goal.returns-in-err-goal-at
-returns-in-err-goal-at c =
+pub returns-in_err-goal_at : goal.returns-in_err-goal_at
+returns-in_err-goal_at c =
     let t = table c.args.table.now in
-    let p = err_from_is_err_and c.from-residual-in-err-goal-at.result c.from-residual-in-err-goal-at.ensures.1 in
-    let w = all_refused t c.from-residual-in-err-goal-at.result c.in-err-goal-at.field-0.0 (p.1 ∙ ap Err p.2) (facts_refused t c.in-ok-predicates-at.predicates-at c.in-ok-predicates-at.ensures c.in-ok-predicates.predicates.end c.in-ok-predicates.ensures.same c.in-err-goal-at.field-0.0 c.in-err-goal-at.ensures) in
+    let p = err_from_is_err_and c.from_residual-in_err-goal_at.result c.from_residual-in_err-goal_at.ensures.1 in
+    let w = all_refused t c.from_residual-in_err-goal_at.result c.in_err-goal_at.field-0.0 (p.1 ∙ ap Err p.2) (facts_refused t c.in_ok-predicates_at.predicates_at c.in_ok-predicates_at.ensures c.in_ok-predicates.predicates.end c.in_ok-predicates.ensures.same c.in_err-goal_at.field-0.0 c.in_err-goal_at.ensures) in
     record { same = w.same; placed = w.placed }
 
-pub returns-in-err-operators-at : goal.returns-in-err-operators-at
-returns-in-err-operators-at c =
+pub returns-in_err-operators_at : goal.returns-in_err-operators_at
+returns-in_err-operators_at c =
     let t = table c.args.table.now in
-    let k = c.in-ok-goal-at.goal-at in
-    let goal : Err c.in-err-operators-at.field-0.0 ≡ answer (formula t 256 (outermost 0 k) k) = c.in-err-operators-at.ensures ∙ ap (λ a. answer (formula t 256 a k)) c.outermost.ensures in
-    let p = err_from_is_err_and c.from-residual-in-err-operators-at.result c.from-residual-in-err-operators-at.ensures.1 in
-    let w = all_refused t c.from-residual-in-err-operators-at.result c.in-err-operators-at.field-0.0 (p.1 ∙ ap Err p.2) (goal_refused t c.in-ok-predicates-at.predicates-at c.in-ok-predicates-at.ensures c.in-ok-predicates.predicates.end c.in-ok-predicates.ensures.same k c.in-ok-goal-at.ensures c.in-err-operators-at.field-0.0 goal) in
+    let k = c.in_ok-goal_at.goal_at in
+    let goal : Err c.in_err-operators_at.field-0.0 ≡ answer (formula t 256 (outermost 0 k) k) = c.in_err-operators_at.ensures ∙ ap (λ a. answer (formula t 256 a k)) c.outermost.ensures in
+    let p = err_from_is_err_and c.from_residual-in_err-operators_at.result c.from_residual-in_err-operators_at.ensures.1 in
+    let w = all_refused t c.from_residual-in_err-operators_at.result c.in_err-operators_at.field-0.0 (p.1 ∙ ap Err p.2) (goal_refused t c.in_ok-predicates_at.predicates_at c.in_ok-predicates_at.ensures c.in_ok-predicates.predicates.end c.in_ok-predicates.ensures.same k c.in_ok-goal_at.ensures c.in_err-operators_at.field-0.0 goal) in
     record { same = w.same; placed = w.placed }
 
-pub returns-in-err-operators : goal.returns-in-err-operators
-returns-in-err-operators c =
+pub returns-in_err-operators : goal.returns-in_err-operators
+returns-in_err-operators c =
     let t = table c.args.table.now in
-    let k = c.in-ok-goal-at.goal-at in
-    let goal : Ok c.in-ok-operators-at.operators-at ≡ answer (formula t 256 (outermost 0 k) k) = c.in-ok-operators-at.ensures ∙ ap (λ a. answer (formula t 256 a k)) c.outermost.ensures in
-    let p = err_from_is_err_and c.from-residual-in-err-operators.result c.from-residual-in-err-operators.ensures.1 in
-    let w = all_refused t c.from-residual-in-err-operators.result c.in-err-operators.field-0.0 (p.1 ∙ ap Err p.2) (operators_refused t c.in-ok-predicates-at.predicates-at c.in-ok-predicates-at.ensures c.in-ok-predicates.predicates.end c.in-ok-predicates.ensures.same k c.in-ok-goal-at.ensures c.in-ok-operators-at.operators-at goal c.in-err-operators.field-0.0 c.in-err-operators.ensures.same) in
+    let k = c.in_ok-goal_at.goal_at in
+    let goal : Ok c.in_ok-operators_at.operators_at ≡ answer (formula t 256 (outermost 0 k) k) = c.in_ok-operators_at.ensures ∙ ap (λ a. answer (formula t 256 a k)) c.outermost.ensures in
+    let p = err_from_is_err_and c.from_residual-in_err-operators.result c.from_residual-in_err-operators.ensures.1 in
+    let w = all_refused t c.from_residual-in_err-operators.result c.in_err-operators.field-0.0 (p.1 ∙ ap Err p.2) (operators_refused t c.in_ok-predicates_at.predicates_at c.in_ok-predicates_at.ensures c.in_ok-predicates.predicates.end c.in_ok-predicates.ensures.same k c.in_ok-goal_at.ensures c.in_ok-operators_at.operators_at goal c.in_err-operators.field-0.0 c.in_err-operators.ensures.same) in
     record { same = w.same; placed = w.placed }
 
 pub returns-then-operators-table : goal.returns-then-operators-table
 returns-then-operators-table c =
     let t = table c.args.table.now in
-    let k = c.in-ok-goal-at.goal-at in
-    let goal : Ok c.in-ok-operators-at.operators-at ≡ answer (formula t 256 (outermost 0 k) k) = c.in-ok-operators-at.ensures ∙ ap (λ a. answer (formula t 256 a k)) c.outermost.ensures in
-    let w = all_refused t _ _ (ap Err c.refuse.ensures) (left_over t c.in-ok-predicates-at.predicates-at c.in-ok-predicates-at.ensures c.in-ok-predicates.predicates.end c.in-ok-predicates.ensures.same k c.in-ok-goal-at.ensures c.in-ok-operators-at.operators-at goal c.in-ok-operators.operators.end c.in-ok-operators.ensures.same c.if-operators-table.true) in
+    let k = c.in_ok-goal_at.goal_at in
+    let goal : Ok c.in_ok-operators_at.operators_at ≡ answer (formula t 256 (outermost 0 k) k) = c.in_ok-operators_at.ensures ∙ ap (λ a. answer (formula t 256 a k)) c.outermost.ensures in
+    let w = all_refused t _ _ (ap Err c.refuse.ensures) (left_over t c.in_ok-predicates_at.predicates_at c.in_ok-predicates_at.ensures c.in_ok-predicates.predicates.end c.in_ok-predicates.ensures.same k c.in_ok-goal_at.ensures c.in_ok-operators_at.operators_at goal c.in_ok-operators.operators.end c.in_ok-operators.ensures.same c.if-operators-table.true) in
     record { same = w.same; placed = w.placed }
 
 pub returns : goal.returns
 returns c =
     let t = table c.args.table.now in
-    let k = c.in-ok-goal-at.goal-at in
-    let goal : Ok c.in-ok-operators-at.operators-at ≡ answer (formula t 256 (outermost 0 k) k) = c.in-ok-operators-at.ensures ∙ ap (λ a. answer (formula t 256 a k)) c.outermost.ensures in
-    let ops = c.in-ok-operators.operators in
-    let w = all_read t c.in-ok-predicates-at.predicates-at c.in-ok-predicates-at.ensures c.in-ok-predicates.predicates.end c.in-ok-predicates.ensures.same k c.in-ok-goal-at.ensures c.in-ok-operators-at.operators-at goal c.in-ok-operators.operators.end c.in-ok-operators.ensures.same (record { atoms = c.in-ok-predicates.predicates.atoms; goal_at = k; operators = ops }) c.if-operators-table.false c.in-ok-predicates.ensures.counted refl c.in-ok-operators.ensures.starts c.in-ok-operators.ensures.effects in
+    let k = c.in_ok-goal_at.goal_at in
+    let goal : Ok c.in_ok-operators_at.operators_at ≡ answer (formula t 256 (outermost 0 k) k) = c.in_ok-operators_at.ensures ∙ ap (λ a. answer (formula t 256 a k)) c.outermost.ensures in
+    let ops = c.in_ok-operators.operators in
+    let w = all_read t c.in_ok-predicates_at.predicates_at c.in_ok-predicates_at.ensures c.in_ok-predicates.predicates.end c.in_ok-predicates.ensures.same k c.in_ok-goal_at.ensures c.in_ok-operators_at.operators_at goal c.in_ok-operators.operators.end c.in_ok-operators.ensures.same (record { atoms = c.in_ok-predicates.predicates.atoms; goal_at = k; operators = ops }) c.if-operators-table.false c.in_ok-predicates.ensures.counted refl c.in_ok-operators.ensures.starts c.in_ok-operators.ensures.effects in
     record { same = w.same; placed = w.placed }

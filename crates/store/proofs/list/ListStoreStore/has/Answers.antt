@@ -10,4 +10,4 @@ returns-then-k-size c =
     let s = c.args.self.now in
     let xs = items s.list in
     let lt : c.args.k < list_size s.list = omega arith in
-    ap Ok (c.is-ok.ensures.value ∙ find_listed xs c.args.k c.find.result (c.find.ensures.found (rises_from_climbs xs s.rising))) ∙ answered_in _ _ _ lt
+    ap Ok (c.is_ok.ensures.value ∙ find_listed xs c.args.k c.find.result (c.find.ensures.found (rises_from_climbs xs s.rising))) ∙ answered_in _ _ _ lt
