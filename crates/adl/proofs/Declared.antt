@@ -1,6 +1,6 @@
 -- The declarations of a table.
 use Rattle.std.proofs.Common.{◌≡◌, ℕ, ◌+◌, ◌-◌, ◌^◌, ◌<◌, ◌≤◌, Bool, true, false, cond, ◌&&◌, leb, List, [], ◌∷◌, get_or, Some, None, Ok, sym, refl, ap, ◌∙◌, subst, arith}
-use native.Mathlib.Nat.{pow_le_pow_left, pow_le_pow_right}
+use Rattle.std.proofs.Math.Nat.{pow-le-pow_left, pow-le-pow_right}
 use Rattle.std.proofs.lemmas.Bool.{ltb-true, eqb-true, leb-true, le-leb, and_parts}
 use Rattle.table.specs.declared.places.Place.TheVariants as place
 use Rattle.table.specs.Reading.{Entry, entry, Out, good, then, unless, series}
@@ -22,8 +22,8 @@ pub power_found : (n k y : ℕ) → Some y ≡ cond (leb n 32 && leb k 4) (Some 
 power_found n k y e =
     let w = power_under (leb n 32 && leb k 4) (n ^ k) y e in
     let v = and_parts (leb n 32) (leb k 4) w.0 in
-    let a : n ^ k ≤ 32 ^ k = pow_le_pow_left (leb-true n 32 v.0) k in
-    let b : 32 ^ k ≤ 32 ^ 4 = pow_le_pow_right {n = 32} (omega arith) (leb-true k 4 v.1) in
+    let a : n ^ k ≤ 32 ^ k = pow-le-pow_left (leb-true n 32 v.0) k in
+    let b : 32 ^ k ≤ 32 ^ 4 = pow-le-pow_right {n = 32} (omega arith) (leb-true k 4 v.1) in
     let c : y ≡ n ^ k = w.1 in
     (c, omega arith)
 

@@ -1,6 +1,6 @@
 -- Terms, formulas, changes, consequents and effects that stand written in a table are read from it.
 use Rattle.std.proofs.Common.{◌≡◌, ℕ, zero, suc, ◌+◌, ◌-◌, ◌<◌, ◌≤◌, max, Bool, true, false, List, [], ◌∷◌, ◌++◌, map, length, get_or, sym, refl, ap, ◌∙◌, arith}
-use native.Mathlib.Nat.{le_max_left, le_max_right}
+use Rattle.std.proofs.Math.Nat.{le-max_left, le-max_right}
 use Rattle.std.proofs.lemmas.Bool.{lt-ltb}
 use Rattle.std.proofs.lemmas.List.{length-append}
 use Rattle.table.specs.declared.places.Place.TheVariants as place
@@ -135,8 +135,8 @@ module _ (t : Table) (T : tree.Task) (d : Declares t T) where
     formula_reads (implication f g) room a i j k s b r n =
         let w = written_split t (write_formula f) (write_formula g) (i + 1) j (written_rest s) in
         let l : length (write_formula f ++ write_formula g) ≡ length (write_formula f) + length (write_formula g) = length-append (write_formula f) (write_formula g) in
-        let x : nesting f ≤ max (nesting f) (nesting g) = le_max_left (nesting f) (nesting g) in
-        let y : nesting g ≤ max (nesting f) (nesting g) = le_max_right (nesting f) (nesting g) in
+        let x : nesting f ≤ max (nesting f) (nesting g) = le-max_left (nesting f) (nesting g) in
+        let y : nesting g ≤ max (nesting f) (nesting g) = le-max_right (nesting f) (nesting g) in
         let m : ℕ = i + 1 + length (write_formula f) in
         formula_enters t a s b room r refl refl refl
         ∙ made_two implication (formula t (room - 1) a (i + 1)) (formula t (room - 1) a) f g m j
@@ -156,8 +156,8 @@ module _ (t : Table) (T : tree.Task) (d : Declares t T) where
     formulas_read (more f fs) room a i j k s b r n =
         let w = written_split t (write_formula f) (write_formulas fs) i j s in
         let l : length (write_formula f ++ write_formulas fs) ≡ length (write_formula f) + length (write_formulas fs) = length-append (write_formula f) (write_formulas fs) in
-        let x : nesting f ≤ max (nesting f) (nesting_all fs) = le_max_left (nesting f) (nesting_all fs) in
-        let y : nesting_all fs ≤ max (nesting f) (nesting_all fs) = le_max_right (nesting f) (nesting_all fs) in
+        let x : nesting f ≤ max (nesting f) (nesting_all fs) = le-max_left (nesting f) (nesting_all fs) in
+        let y : nesting_all fs ≤ max (nesting f) (nesting_all fs) = le-max_right (nesting f) (nesting_all fs) in
         let m : ℕ = i + length (write_formula f) in
         many_more (formula t room a) (count_formulas fs) i m j f (listed_formulas fs)
         (formula_reads f room a i m k.0 w.0 (omega (arith, w.1.ends)) (omega arith) (omega arith))
@@ -254,8 +254,8 @@ module _ (t : Table) (T : tree.Task) (d : Declares t T) where
     effects_read (and g es) room a i j k s b r u n =
         let w = written_split t (write_effect g) (write_effects es) i j s in
         let l : length (write_effect g ++ write_effects es) ≡ length (write_effect g) + length (write_effects es) = length-append (write_effect g) (write_effects es) in
-        let x : effect_nesting g ≤ max (effect_nesting g) (effects_nesting es) = le_max_left (effect_nesting g) (effects_nesting es) in
-        let y : effects_nesting es ≤ max (effect_nesting g) (effects_nesting es) = le_max_right (effect_nesting g) (effects_nesting es) in
+        let x : effect_nesting g ≤ max (effect_nesting g) (effects_nesting es) = le-max_left (effect_nesting g) (effects_nesting es) in
+        let y : effects_nesting es ≤ max (effect_nesting g) (effects_nesting es) = le-max_right (effect_nesting g) (effects_nesting es) in
         let m : ℕ = i + length (write_effect g) in
         many_more (effect t room a) (count_effects es) i m j g (listed_effects es)
         (effect_reads g room a i m k.0 w.0 (omega (arith, w.1.ends)) (omega arith) u (omega arith))

@@ -1,6 +1,6 @@
 -- What is written in a table is read from it: formulas, effects, names, actions and atoms.
 use Rattle.std.proofs.Common.{◌≡◌, ℕ, zero, suc, ◌+◌, ◌-◌, ◌<◌, ◌≤◌, Bool, true, false, cond, not, ◌&&◌, eqb, ltb, leb, List, [], ◌∷◌, ◌++◌, map, length, get_or, refl, ap, ◌∙◌, subst, arith}
-use native.Mathlib.Nat.{le_max_left, le_max_right}
+use Rattle.std.proofs.Math.Nat.{le-max_left, le-max_right}
 use Rattle.std.proofs.lemmas.Bool.{lt-ltb, le-leb, and_from, and_right, not_from_false}
 use Rattle.table.specs.declared.places.Place.{Place}
 use Rattle.table.specs.declared.places.Place.TheVariants as place
@@ -116,8 +116,8 @@ module _ (t : Table) where
     grounds_read (cons g gs) levels i j k l s b =
         let w = written_split t (write_ground g) (write_grounds gs) i j s in
         let m : ℕ = i + length (write_ground g) in
-        let a = le_max_left (ground_levels g) (ground_levels_all gs) in
-        let c = le_max_right (ground_levels g) (ground_levels_all gs) in
+        let a = le-max_left (ground_levels g) (ground_levels_all gs) in
+        let c = le-max_right (ground_levels g) (ground_levels_all gs) in
         ap (λ o. then o (λ x n. then (many (ground t levels) (count_grounds gs) n) λ rest h. good (x ∷ rest) h)) (ground_reads g levels i m k.0 (omega arith) w.0 (omega (arith, w.1.ends)))
         ∙ made (λ rest. g ∷ rest) (many (ground t levels) (count_grounds gs) m) (parts gs) j (grounds_read gs levels m j k.1 (omega arith) w.1 b)
 

@@ -1,6 +1,6 @@
 -- How many literals an effect has.
 use Rattle.std.proofs.Common.{◌≡◌, ℕ, zero, suc, ◌+◌, ◌-◌, ◌*◌, ◌^◌, ◌<◌, ◌≤◌, Bool, true, false, cond, eqb, ltb, List, [], ◌∷◌, ◌++◌, length, get_or, sym, refl, ap, ◌∙◌, mul-le-mul_right, suc-mul, add-mul, mul-le-mul, le-mul_of_pos_right, mul_left_comm, arith}
-use native.Mathlib.Nat.{pow_succ', one_le_pow, pow_le_pow_right}
+use Rattle.std.proofs.Math.Nat.{pow-succ', one-le-pow, pow-le-pow_right}
 use Rattle.std.proofs.lemmas.List.{append-nil, length-append, length-map}
 use Rattle.std.proofs.lemmas.Bool.{ltb-true, eqb-true, and_parts}
 use Rattle.table.specs.declared.places.Place.TheVariants as place
@@ -52,15 +52,15 @@ copies q = 32 ^ (3 - q)
 
 copies_step : (q : ℕ) → q < 3 → copies q ≡ 32 * copies (q + 1)
 unfolding copies
-copies_step q h = ap (λ (k : ℕ). 32 ^ k) (let e : 3 - q ≡ suc (3 - (q + 1)) = omega arith in e) ∙ pow_succ' 32 (3 - (q + 1))
+copies_step q h = ap (λ (k : ℕ). 32 ^ k) (let e : 3 - q ≡ suc (3 - (q + 1)) = omega arith in e) ∙ pow-succ' 32 (3 - (q + 1))
 
 copies_pos : (q : ℕ) → 0 < copies q
 unfolding copies
-copies_pos q = one_le_pow (3 - q) 32 (omega arith)
+copies_pos q = one-le-pow (3 - q) 32 (omega arith)
 
 copies_most : (q : ℕ) → copies q ≤ 32768
 unfolding copies
-copies_most q = let h : 3 - q ≤ 3 = omega arith in let z : 0 < 32 = omega arith in pow_le_pow_right z h
+copies_most q = let h : 3 - q ≤ 3 = omega arith in let z : 0 < 32 = omega arith in pow-le-pow_right z h
 
 -- m places and then n make so many literals as m + n do
 together : (m n k p : ℕ) → m + n ≡ k → m * p + n * p ≡ k * p

@@ -1,6 +1,6 @@
 -- The numbers of atoms: how many come before a predicate's, and the digits of an atom's arguments.
 use Rattle.std.proofs.Common.{◌≡◌, ℕ, zero, suc, ◌+◌, ◌*◌, ◌^◌, ◌<◌, ◌≤◌, Bool, true, false, cond, ◌&&◌, leb, List, [], ◌∷◌, ◌++◌, length, get_or, take, Some, None, sym, ap, ◌∙◌, mul_assoc, mul_comm, add-mul, mul-le-mul_left, zero-mul, mul-one, add-one, arith}
-use native.Mathlib.Nat.{pow_succ', pow_zero, pow_le_pow_right}
+use Rattle.std.proofs.Math.Nat.{pow-succ', pow-zero, pow-le-pow_right}
 use Rattle.std.proofs.lemmas.List.{length_push}
 use Rattle.std.proofs.lemmas.Bool.{le-leb, and_from}
 use Rattle.model.specs.Trees.{digits, atoms_of}
@@ -38,9 +38,9 @@ power_there n k h l e = missed (leb n 32 && leb k 4) (n ^ k) (and_from _ _ (le-l
 
 -- one more argument
 pub digits_push : (n : ℕ) (os : List ℕ) (o : ℕ) → digits n (os ++ (o ∷ [])) ≡ digits n os * n + o
-digits_push n [] o = let e : o * n ^ 0 ≡ o = ap (λ m. o * m) (pow_zero n) ∙ mul-one o in omega (arith, e, zero-mul n)
+digits_push n [] o = let e : o * n ^ 0 ≡ o = ap (λ m. o * m) (pow-zero n) ∙ mul-one o in omega (arith, e, zero-mul n)
 digits_push n (x ∷ os) o =
-    let l : n ^ length (os ++ (o ∷ [])) ≡ n ^ length os * n = ap (λ m. n ^ m) (length_push os o ∙ add-one (length os)) ∙ pow_succ' n (length os) ∙ mul_comm n (n ^ length os) in
+    let l : n ^ length (os ++ (o ∷ [])) ≡ n ^ length os * n = ap (λ m. n ^ m) (length_push os o ∙ add-one (length os)) ∙ pow-succ' n (length os) ∙ mul_comm n (n ^ length os) in
     let a = ap (λ m. x * m) l ∙ sym (mul_assoc x (n ^ length os) n) in
     let b = add-mul (x * n ^ length os) (digits n os) n in
     omega (arith, digits_push n os o, a, b)
@@ -49,7 +49,7 @@ digits_push n (x ∷ os) o =
 pub digit_small : (d n o k : ℕ) → d < 32 ^ k → n ≤ 32 → o < n → d * n + o < 32 ^ (k + 1)
 digit_small d n o k h l m =
     let a : d * n ≤ d * 32 = mul-le-mul_left d l in
-    let p = ap (λ m. 32 ^ m) (add-one k) ∙ pow_succ' 32 k in
+    let p = ap (λ m. 32 ^ m) (add-one k) ∙ pow-succ' 32 k in
     omega (arith, a, p)
 
 -- few digits stay small
@@ -57,5 +57,5 @@ pub few_digits : (d n k : ℕ) → d < 32 ^ k → n ≤ 32 → k < 3 → d * n �
 few_digits d n k h l m =
     let a : d * n ≤ d * 32 = mul-le-mul_left d l in
     let q : k ≤ 2 = omega arith in
-    let p : 32 ^ k ≤ 32 ^ 2 = pow_le_pow_right (omega arith) q in
+    let p : 32 ^ k ≤ 32 ^ 2 = pow-le-pow_right (omega arith) q in
     omega (arith, a, p)

@@ -20,16 +20,16 @@ returns-then-room-eq0 d c =
     let a = around c.args.around in
     ap Err c.refuse.ensures ∙ consequent_too_deep t c.args.room a c.args.at (coded c.in_ok-head.head) c.if-room-eq0.true c.in_ok-head.ensures.same
 
-pub returns-in_err-next : goal.returns-in_err-next
-returns-in_err-next d c =
+pub returns-in_err-next-in-And : goal.returns-in_err-next-in-And
+returns-in_err-next-in-And d c =
     let t = table c.args.table.now in
     let a = around c.args.around in
     let r = consequent t (c.args.room - 1) a in
     let k = c.in_ok-head.head.kind in
     let o = c.in_ok-head.head.operand in
-    let p = err_from_is_err_and c.from_residual-in_err-next.result c.from_residual-in_err-next.ensures.1 in
+    let p = err_from_is_err_and c.from_residual-in_err-next-in-And.result c.from_residual-in_err-next-in-And.ensures.1 in
     p.1 ∙ ap Err p.2
-    ∙ many_refused layer.Task r (o - c.loop-k._k) c.loop-k.next c.in_err-next.field-0.0 (omega arith) c.in_err-next.ensures
+    ∙ many_refused layer.Task r (o - c.loop-k._k) c.loop-k.next c.in_err-next-in-And.field-0.0 (omega arith) c.in_err-next-in-And.ensures
     ∙ c.loop-k.invariant
     ∙ after_and t r a k o (c.args.at + 1) c.in-And.is
     ∙ consequent_goes t c.args.room a c.args.at (coded c.in_ok-head.head) (omega arith) c.in_ok-head.ensures.same
@@ -39,7 +39,7 @@ loop-k-preserved d c =
     let t = table c.args.table.now in
     let a = around c.args.around in
     let r = consequent t (c.args.room - 1) a in
-    many_turn layer.Task r c.in_ok-head.head.operand c.loop-k._k c.loop-k.next c.in_ok-next.next (omega arith) c.in_ok-next.ensures
+    many_turn layer.Task r c.in_ok-head.head.operand c.loop-k._k c.loop-k.next c.in_ok-next-in-And.next (omega arith) c.in_ok-next-in-And.ensures
     ∙ c.loop-k.invariant
 
 pub returns-after-loop-k : goal.returns-after-loop-k

@@ -20,16 +20,16 @@ returns-then-room-eq0 d c =
     let a = around c.args.around in
     ap Err c.refuse.ensures ∙ effect_too_deep t c.args.room a c.args.at (coded c.in_ok-head.head) c.if-room-eq0.true c.in_ok-head.ensures.same
 
-pub returns-in_err-next : goal.returns-in_err-next
-returns-in_err-next d c =
+pub returns-in_err-next-in-And : goal.returns-in_err-next-in-And
+returns-in_err-next-in-And d c =
     let t = table c.args.table.now in
     let a = around c.args.around in
     let r = effect t (c.args.room - 1) in
     let k = c.in_ok-head.head.kind in
     let o = c.in_ok-head.head.operand in
-    let p = err_from_is_err_and c.from_residual-in_err-next.result c.from_residual-in_err-next.ensures.1 in
+    let p = err_from_is_err_and c.from_residual-in_err-next-in-And.result c.from_residual-in_err-next-in-And.ensures.1 in
     p.1 ∙ ap Err p.2
-    ∙ many_refused layer.Task (r a) (o - c.loop-k._k) c.loop-k.next c.in_err-next.field-0.0 (omega arith) c.in_err-next.ensures
+    ∙ many_refused layer.Task (r a) (o - c.loop-k._k) c.loop-k.next c.in_err-next-in-And.field-0.0 (omega arith) c.in_err-next-in-And.ensures
     ∙ c.loop-k.invariant
     ∙ after_conjunction t r a k o (c.args.at + 1) c.in-And.is
     ∙ effect_goes t c.args.room a c.args.at (coded c.in_ok-head.head) (omega arith) c.in_ok-head.ensures.same
@@ -39,7 +39,7 @@ loop-k-preserved d c =
     let t = table c.args.table.now in
     let a = around c.args.around in
     let r = effect t (c.args.room - 1) in
-    many_turn layer.Task (r a) c.in_ok-head.head.operand c.loop-k._k c.loop-k.next c.in_ok-next.next (omega arith) c.in_ok-next.ensures
+    many_turn layer.Task (r a) c.in_ok-head.head.operand c.loop-k._k c.loop-k.next c.in_ok-next-in-And.next (omega arith) c.in_ok-next-in-And.ensures
     ∙ c.loop-k.invariant
 
 pub returns-after-loop-k : goal.returns-after-loop-k
@@ -66,27 +66,27 @@ returns-in-Forall d c =
     ∙ after_forall t r a k o (c.args.at + 1) c.in-Forall.is
     ∙ effect_goes t c.args.room a c.args.at (coded c.in_ok-head.head) (omega arith) c.in_ok-head.ensures.same
 
-pub returns-in_err-consequent : goal.returns-in_err-consequent
-returns-in_err-consequent d c =
+pub returns-in_err-consequent-in-When : goal.returns-in_err-consequent-in-When
+returns-in_err-consequent-in-When d c =
     let t = table c.args.table.now in
     let a = around c.args.around in
     let r = effect t (c.args.room - 1) in
     let k = c.in_ok-head.head.kind in
     let o = c.in_ok-head.head.operand in
-    let p = err_from_is_err_and c.from_residual-in_err-consequent.result c.from_residual-in_err-consequent.ensures.1 in
+    let p = err_from_is_err_and c.from_residual-in_err-consequent-in-When.result c.from_residual-in_err-consequent-in-When.ensures.1 in
     p.1 ∙ ap Err p.2
-    ∙ when_refused t r a k o (c.args.at + 1) c.in-When.is c.in_err-consequent.field-0.0 c.in_err-consequent.ensures
+    ∙ when_refused t r a k o (c.args.at + 1) c.in-When.is c.in_err-consequent-in-When.field-0.0 c.in_err-consequent-in-When.ensures
     ∙ effect_goes t c.args.room a c.args.at (coded c.in_ok-head.head) (omega arith) c.in_ok-head.ensures.same
 
-pub returns-in_ok-consequent : goal.returns-in_ok-consequent
-returns-in_ok-consequent d c =
+pub returns-in_ok-consequent-in-When : goal.returns-in_ok-consequent-in-When
+returns-in_ok-consequent-in-When d c =
     let t = table c.args.table.now in
     let a = around c.args.around in
     let r = effect t (c.args.room - 1) in
     let k = c.in_ok-head.head.kind in
     let o = c.in_ok-head.head.operand in
     c.check_consequent.ensures
-    ∙ after_when t r a k o (c.args.at + 1) c.in-When.is c.in_ok-consequent.consequent c.in_ok-consequent.ensures
+    ∙ after_when t r a k o (c.args.at + 1) c.in-When.is c.in_ok-consequent-in-When.consequent c.in_ok-consequent-in-When.ensures
     ∙ effect_goes t c.args.room a c.args.at (coded c.in_ok-head.head) (omega arith) c.in_ok-head.ensures.same
 
 pub returns-in_default : goal.returns-in_default

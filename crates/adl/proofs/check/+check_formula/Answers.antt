@@ -20,16 +20,16 @@ returns-then-room-eq0 d c =
     let a = around c.args.around in
     ap Err c.refuse.ensures ∙ formula_too_deep t c.args.room a c.args.at (coded c.in_ok-head.head) c.if-room-eq0.true c.in_ok-head.ensures.same
 
-pub returns-in_err-next : goal.returns-in_err-next
-returns-in_err-next d c =
+pub returns-in_err-next-in-And : goal.returns-in_err-next-in-And
+returns-in_err-next-in-And d c =
     let t = table c.args.table.now in
     let a = around c.args.around in
     let r = formula t (c.args.room - 1) in
     let k = c.in_ok-head.head.kind in
     let o = c.in_ok-head.head.operand in
-    let p = err_from_is_err_and c.from_residual-in_err-next.result c.from_residual-in_err-next.ensures.1 in
+    let p = err_from_is_err_and c.from_residual-in_err-next-in-And.result c.from_residual-in_err-next-in-And.ensures.1 in
     p.1 ∙ ap Err p.2
-    ∙ many_refused layer.Task (r a) (o - c.loop-k._k) c.loop-k.next c.in_err-next.field-0.0 (omega arith) c.in_err-next.ensures
+    ∙ many_refused layer.Task (r a) (o - c.loop-k._k) c.loop-k.next c.in_err-next-in-And.field-0.0 (omega arith) c.in_err-next-in-And.ensures
     ∙ c.loop-k.invariant
     ∙ after_junction t r a k o (c.args.at + 1) c.in-And.is
     ∙ formula_goes t c.args.room a c.args.at (coded c.in_ok-head.head) (omega arith) c.in_ok-head.ensures.same
@@ -39,7 +39,7 @@ loop-k-preserved d c =
     let t = table c.args.table.now in
     let a = around c.args.around in
     let r = formula t (c.args.room - 1) in
-    many_turn layer.Task (r a) c.in_ok-head.head.operand c.loop-k._k c.loop-k.next c.in_ok-next.next (omega arith) c.in_ok-next.ensures
+    many_turn layer.Task (r a) c.in_ok-head.head.operand c.loop-k._k c.loop-k.next c.in_ok-next-in-And.next (omega arith) c.in_ok-next-in-And.ensures
     ∙ c.loop-k.invariant
 
 pub returns-after-loop-k : goal.returns-after-loop-k
@@ -65,27 +65,27 @@ returns-in-Atom d c =
     ∙ after_atom t r a k o (c.args.at + 1) c.in-Atom.is
     ∙ formula_goes t c.args.room a c.args.at (coded c.in_ok-head.head) (omega arith) c.in_ok-head.ensures.same
 
-pub returns-in_err-second : goal.returns-in_err-second
-returns-in_err-second d c =
+pub returns-in_err-second-in-Equal : goal.returns-in_err-second-in-Equal
+returns-in_err-second-in-Equal d c =
     let t = table c.args.table.now in
     let a = around c.args.around in
     let r = formula t (c.args.room - 1) in
     let k = c.in_ok-head.head.kind in
     let o = c.in_ok-head.head.operand in
-    let p = err_from_is_err_and c.from_residual-in_err-second.result c.from_residual-in_err-second.ensures.1 in
+    let p = err_from_is_err_and c.from_residual-in_err-second-in-Equal.result c.from_residual-in_err-second-in-Equal.ensures.1 in
     p.1 ∙ ap Err p.2
-    ∙ equal_refused t r a k o (c.args.at + 1) c.in-Equal.is c.in_err-second.field-0.0 c.in_err-second.ensures
+    ∙ equal_refused t r a k o (c.args.at + 1) c.in-Equal.is c.in_err-second-in-Equal.field-0.0 c.in_err-second-in-Equal.ensures
     ∙ formula_goes t c.args.room a c.args.at (coded c.in_ok-head.head) (omega arith) c.in_ok-head.ensures.same
 
-pub returns-in_ok-second : goal.returns-in_ok-second
-returns-in_ok-second d c =
+pub returns-in_ok-second-in-Equal : goal.returns-in_ok-second-in-Equal
+returns-in_ok-second-in-Equal d c =
     let t = table c.args.table.now in
     let a = around c.args.around in
     let r = formula t (c.args.room - 1) in
     let k = c.in_ok-head.head.kind in
     let o = c.in_ok-head.head.operand in
     c.check_term-in-Equal.ensures
-    ∙ after_equal t r a k o (c.args.at + 1) c.in-Equal.is c.in_ok-second.second c.in_ok-second.ensures
+    ∙ after_equal t r a k o (c.args.at + 1) c.in-Equal.is c.in_ok-second-in-Equal.second c.in_ok-second-in-Equal.ensures
     ∙ formula_goes t c.args.room a c.args.at (coded c.in_ok-head.head) (omega arith) c.in_ok-head.ensures.same
 
 pub returns-in-Not : goal.returns-in-Not
@@ -99,27 +99,27 @@ returns-in-Not d c =
     ∙ after_not t r a k o (c.args.at + 1) c.in-Not.is
     ∙ formula_goes t c.args.room a c.args.at (coded c.in_ok-head.head) (omega arith) c.in_ok-head.ensures.same
 
-pub returns-in_err-second-2 : goal.returns-in_err-second-2
-returns-in_err-second-2 d c =
+pub returns-in_err-second-in-Imply : goal.returns-in_err-second-in-Imply
+returns-in_err-second-in-Imply d c =
     let t = table c.args.table.now in
     let a = around c.args.around in
     let r = formula t (c.args.room - 1) in
     let k = c.in_ok-head.head.kind in
     let o = c.in_ok-head.head.operand in
-    let p = err_from_is_err_and c.from_residual-in_err-second-2.result c.from_residual-in_err-second-2.ensures.1 in
+    let p = err_from_is_err_and c.from_residual-in_err-second-in-Imply.result c.from_residual-in_err-second-in-Imply.ensures.1 in
     p.1 ∙ ap Err p.2
-    ∙ imply_refused t r a k o (c.args.at + 1) c.in-Imply.is c.in_err-second-2.field-0.0 c.in_err-second-2.ensures
+    ∙ imply_refused t r a k o (c.args.at + 1) c.in-Imply.is c.in_err-second-in-Imply.field-0.0 c.in_err-second-in-Imply.ensures
     ∙ formula_goes t c.args.room a c.args.at (coded c.in_ok-head.head) (omega arith) c.in_ok-head.ensures.same
 
-pub returns-in_ok-second-2 : goal.returns-in_ok-second-2
-returns-in_ok-second-2 d c =
+pub returns-in_ok-second-in-Imply : goal.returns-in_ok-second-in-Imply
+returns-in_ok-second-in-Imply d c =
     let t = table c.args.table.now in
     let a = around c.args.around in
     let r = formula t (c.args.room - 1) in
     let k = c.in_ok-head.head.kind in
     let o = c.in_ok-head.head.operand in
     c.check_formula-in-Imply-2.ensures
-    ∙ after_imply t r a k o (c.args.at + 1) c.in-Imply.is c.in_ok-second-2.second c.in_ok-second-2.ensures
+    ∙ after_imply t r a k o (c.args.at + 1) c.in-Imply.is c.in_ok-second-in-Imply.second c.in_ok-second-in-Imply.ensures
     ∙ formula_goes t c.args.room a c.args.at (coded c.in_ok-head.head) (omega arith) c.in_ok-head.ensures.same
 
 pub returns-in-Forall : goal.returns-in-Forall
