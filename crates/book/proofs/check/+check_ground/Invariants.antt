@@ -4,11 +4,11 @@ use Rattle.book.specs.Reads.{ground}
 use Rattle.book.specs.Views.{table, answer}
 use Rattle.book.proofs.check.+check_ground.Given as goal
 
-abbrev pub decreases-check-ground : goal.decreases-check-ground
-decreases-check-ground l = l.levels
+abbrev pub decreases-check_ground : goal.decreases-check_ground
+decreases-check_ground l = l.levels
 
 -- the parts that are left, read from here, answer as all parts do
 abbrev pub invariant-loop-k : goal.invariant-loop-k
 invariant-loop-k l =
-    answer (many (ground (table l.table) (l.levels - 1)) (l.-k-end - l.-k) l.next)
-    ≡ answer (many (ground (table l.table) (l.levels - 1)) l.-k-end l.initial.next)
+    answer (many (ground (table l.table) (l.levels - 1)) (l._k-end - l._k) l.next)
+    ≡ answer (many (ground (table l.table) (l.levels - 1)) l._k-end l.initial.next)

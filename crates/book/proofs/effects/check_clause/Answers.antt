@@ -4,21 +4,21 @@ use Rattle.book.specs.Views.{table}
 use Rattle.book.proofs.Parts.{when_refused, when_goes, plain_goes}
 use Rattle.book.proofs.effects.check_clause.Goals as goal
 
-pub returns-in-err-literals : goal.returns-in-err-literals
-returns-in-err-literals c =
-    let h = c.in-ok-head.head in
-    let p = err_from_is_err_and c.from-residual-in-err-literals.result c.from-residual-in-err-literals.ensures.1 in
+pub returns-in_err-literals-in-When : goal.returns-in_err-literals-in-When
+returns-in_err-literals-in-When c =
+    let h = c.in_ok-head.head in
+    let p = err_from_is_err_and c.from_residual-in_err-literals-in-When.result c.from_residual-in_err-literals-in-When.ensures.1 in
     p.1 ∙ ap Err p.2
-    ∙ when_refused (table c.args.table.now) c.args.at h.kind h.operand c.in-ok-head.ensures.same c.in-When.is c.in-err-literals.field-0.0 c.in-err-literals.ensures
+    ∙ when_refused (table c.args.table.now) c.args.at h.kind h.operand c.in_ok-head.ensures.same c.in-When.is c.in_err-literals-in-When.field-0.0 c.in_err-literals-in-When.ensures
 
-pub returns-in-ok-literals : goal.returns-in-ok-literals
-returns-in-ok-literals c =
-    let h = c.in-ok-head.head in
-    c.check-literals.ensures
-    ∙ when_goes (table c.args.table.now) c.args.at h.kind h.operand c.in-ok-head.ensures.same c.in-When.is c.in-ok-literals.literals c.in-ok-literals.ensures
+pub returns-in_ok-literals-in-When : goal.returns-in_ok-literals-in-When
+returns-in_ok-literals-in-When c =
+    let h = c.in_ok-head.head in
+    c.check_literals.ensures
+    ∙ when_goes (table c.args.table.now) c.args.at h.kind h.operand c.in_ok-head.ensures.same c.in-When.is c.in_ok-literals-in-When.literals c.in_ok-literals-in-When.ensures
 
-pub returns-in-default : goal.returns-in-default
-returns-in-default c =
-    let h = c.in-ok-head.head in
-    c.check-literal-by.ensures
-    ∙ plain_goes (table c.args.table.now) c.args.at h.kind h.operand c.in-ok-head.ensures.same c.in-default.not-When
+pub returns-in_default : goal.returns-in_default
+returns-in_default c =
+    let h = c.in_ok-head.head in
+    c.check_literal_by.ensures
+    ∙ plain_goes (table c.args.table.now) c.args.at h.kind h.operand c.in_ok-head.ensures.same c.in_default.not-When

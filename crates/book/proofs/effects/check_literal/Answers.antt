@@ -8,5 +8,5 @@ use Rattle.book.proofs.effects.check_literal.Goals as goal
 pub returns : goal.returns
 returns c =
     let t = table c.args.table.now in
-    c.check-literal-by.ensures
-    ∙ head_goes t place.Literal 510 c.args.at (coded c.in-ok-head.head) c.in-ok-head.ensures.same (literal_by t 509)
+    c.check_literal_by.ensures
+    ∙ head_goes t place.Literal 510 c.args.at (coded c.in_ok-head.head) c.in_ok-head.ensures.same (literal_by t 509)

@@ -7,5 +7,5 @@ use Rattle.book.proofs.effects.check_literals.Given as goal
 -- the literals that are left, read from here, answer as all literals do
 abbrev pub invariant-loop-k : goal.invariant-loop-k
 invariant-loop-k l =
-    answer (many (literal (table l.table)) (l.-k-end - l.-k) l.next)
-    ≡ answer (many (literal (table l.table)) l.-k-end l.initial.next)
+    answer (many (literal (table l.table)) (l._k-end - l._k) l.next)
+    ≡ answer (many (literal (table l.table)) l._k-end l.initial.next)

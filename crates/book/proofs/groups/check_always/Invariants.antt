@@ -7,5 +7,5 @@ use Rattle.book.proofs.groups.check_always.Given as goal
 -- the atoms that are left, read from here, answer as all atoms do
 abbrev pub invariant-loop-k : goal.invariant-loop-k
 invariant-loop-k l =
-    answer (series (always_true (table l.table)) after_atom (l.table.sizes.always - l.-k) l.low l.at)
+    answer (series (always_true (table l.table)) after_atom (l.table.sizes.always - l._k) l.low l.at)
     ≡ answer (series (always_true (table l.table)) after_atom l.table.sizes.always 0 l.from)

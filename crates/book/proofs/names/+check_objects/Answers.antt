@@ -23,5 +23,5 @@ returns-then-room-eq0 d c =
 pub returns : goal.returns
 returns d c =
     let t = table c.args.table.now in
-    c.check-objects.ensures
+    c.check_objects.ensures
     ∙ objects_go t c.args.at c.args.room c.if-room-eq0.false c.if-table-at-ge32.false (one_here t c.args.at c.if-at-table.false c.if-table-at.false)

@@ -1,4 +1,4 @@
 use Rattle.book.proofs.names.+check_objects.Given as goal
 
-abbrev pub decreases-check-objects : goal.decreases-check-objects
-decreases-check-objects l = l.room
+abbrev pub decreases-check_objects : goal.decreases-check_objects
+decreases-check_objects l = l.room

@@ -15,29 +15,29 @@ loop-k-init g c =
     let n : k.table.sizes.facts - 0 ≡ k.table.sizes.facts = omega arith in
     (refl, ap (λ x. many (fact (held k)) x (facts_place (held k))) n ∙ (stands (held k) k.formed).facts, refl)
 
-pub offset-bounds-task-at : goal.offset-bounds-task-at
-offset-bounds-task-at g c =
-    let w = next_in c.args.task.now c.loop-k.-k c.loop-k.at c.loop-k-test.true c.loop-k.invariant.1 in
+pub offset_bounds-task-at : goal.offset_bounds-task-at
+offset_bounds-task-at g c =
+    let w = next_in c.args.task.now c.loop-k._k c.loop-k.at c.loop-k-test.true c.loop-k.invariant.1 in
     omega (arith, w.2.inside, c.args.task.now.table.entries)
 
 pub bounds-task-at : goal.bounds-task-at
 bounds-task-at g c =
-    let w = next_in c.args.task.now c.loop-k.-k c.loop-k.at c.loop-k-test.true c.loop-k.invariant.1 in
+    let w = next_in c.args.task.now c.loop-k._k c.loop-k.at c.loop-k-test.true c.loop-k.invariant.1 in
     omega (arith, w.2.inside, c.args.task.now.table.numbered)
 
-pub overflow-add-at-in-loop-k : goal.overflow-add-at-in-loop-k
-overflow-add-at-in-loop-k g c =
-    let w = next_in c.args.task.now c.loop-k.-k c.loop-k.at c.loop-k-test.true c.loop-k.invariant.1 in
+pub overflow_add-at-in-loop-k : goal.overflow_add-at-in-loop-k
+overflow_add-at-in-loop-k g c =
+    let w = next_in c.args.task.now c.loop-k._k c.loop-k.at c.loop-k-test.true c.loop-k.invariant.1 in
     omega (arith, w.2.inside, c.args.task.now.table.entries)
 
-pub atom-number-requires : goal.atom-number-requires
-atom-number-requires g c =
-    let w = next_in c.args.task.now c.loop-k.-k c.loop-k.at c.loop-k-test.true c.loop-k.invariant.1 in
+pub atom_number-requires : goal.atom_number-requires
+atom_number-requires g c =
+    let w = next_in c.args.task.now c.loop-k._k c.loop-k.at c.loop-k-test.true c.loop-k.invariant.1 in
     record { room = omega arith; objects = tt; stand = (w.2.arguments, w.1, w.2.stand) }
 
-pub overflow-add-at-in-loop-k-3 : goal.overflow-add-at-in-loop-k-3
-overflow-add-at-in-loop-k-3 g c =
-    let w = next_in c.args.task.now c.loop-k.-k c.loop-k.at c.loop-k-test.true c.loop-k.invariant.1 in
+pub overflow_add-at-in-loop-k-3 : goal.overflow_add-at-in-loop-k-3
+overflow_add-at-in-loop-k-3 g c =
+    let w = next_in c.args.task.now c.loop-k._k c.loop-k.at c.loop-k-test.true c.loop-k.invariant.1 in
     omega (arith, w.2.ends, w.2.ends_inside, c.arity.ensures, c.args.task.now.table.entries)
 
 pub loop-k-preserved : goal.loop-k-preserved
@@ -45,13 +45,13 @@ loop-k-preserved g c =
     let k = c.args.task.now in
     let m = g.S.Store in
     let i = c.loop-k.at in
-    let w = next_in k c.loop-k.-k c.loop-k.at c.loop-k-test.true c.loop-k.invariant.1 in
+    let w = next_in k c.loop-k._k c.loop-k.at c.loop-k-test.true c.loop-k.invariant.1 in
     let e : i + (1 + c.arity.result) ≡ w.1 = ap (λ x. i + (1 + x)) c.arity.ensures ∙ sym w.2.ends in
-    let a : c.atom-number.result ≡ number (tree_of k) w.0.predicate w.0.arguments =
-    c.atom-number.ensures.atom w.2.arguments w.1 w.2.stand ∙ ap (λ (f : Fact). number (tree_of k) f.predicate f.arguments) (sym w.2.is) in (
+    let a : c.atom_number.result ≡ number (tree_of k) w.0.predicate w.0.arguments =
+    c.atom_number.ensures.atom w.2.arguments w.1 w.2.stand ∙ ap (λ (f : Fact). number (tree_of k) f.predicate f.arguments) (sym w.2.is) in (
       c.put.ensures.size ∙ c.loop-k.invariant.0,
-      ap (λ x. many (fact (held k)) (k.table.sizes.facts - (c.loop-k.-k + 1)) x) e ∙ w.4,
-      put_next (tree_of k) (m.extent c.args.store.now) _ c.atom-number.result w.0 (drop c.loop-k.-k (tree_of k).facts) (drop (c.loop-k.-k + 1) (tree_of k).facts) (m.facts c.loop-k.store) _ _ w.3 c.loop-k.invariant.0 a c.put.ensures.set c.loop-k.invariant.2,
+      ap (λ x. many (fact (held k)) (k.table.sizes.facts - (c.loop-k._k + 1)) x) e ∙ w.4,
+      put_next (tree_of k) (m.extent c.args.store.now) _ c.atom_number.result w.0 (drop c.loop-k._k (tree_of k).facts) (drop (c.loop-k._k + 1) (tree_of k).facts) (m.facts c.loop-k.store) _ _ w.3 c.loop-k.invariant.0 a c.put.ensures.set c.loop-k.invariant.2,
     )
 
 pub returns : goal.returns
@@ -60,8 +60,8 @@ returns g c =
     let m = g.S.Store in
     let inv = c.loop-k.invariant in
     let fs = (tree_of k).facts in
-    let n : length (tree_of k).facts ≤ c.loop-k.-k = omega (arith, facts_length (held k) k.formed, c.loop-k-test.false) in
+    let n : length (tree_of k).facts ≤ c.loop-k._k = omega (arith, facts_length (held k) k.formed, c.loop-k-test.false) in
     record {
       size = inv.0;
-      set = sym (ap (λ (zs : List Fact). put_numbers (m.extent c.args.store.now) (numbered (tree_of k) zs) (m.facts c.loop-k.store)) (drop_all c.loop-k.-k fs n)) ∙ inv.2;
+      set = sym (ap (λ (zs : List Fact). put_numbers (m.extent c.args.store.now) (numbered (tree_of k) zs) (m.facts c.loop-k.store)) (drop_all c.loop-k._k fs n)) ∙ inv.2;
     }

@@ -11,5 +11,5 @@ invariant-loop-k g l =
     let m = g.S.Store in
     let t = tree_of l.task in
     (m.extent l.store ≡ m.extent l.initial.store)
-    × (many (fact (held l.task)) (l.task.table.sizes.facts - l.-k) l.at ≡ good (drop l.-k t.facts) (goal_place (held l.task)))
-    × (put_numbers (m.extent l.initial.store) (numbered t (drop l.-k t.facts)) (m.facts l.store) ≡ put_numbers (m.extent l.initial.store) (numbered t t.facts) (m.facts l.initial.store))
+    × (many (fact (held l.task)) (l.task.table.sizes.facts - l._k) l.at ≡ good (drop l._k t.facts) (goal_place (held l.task)))
+    × (put_numbers (m.extent l.initial.store) (numbered t (drop l._k t.facts)) (m.facts l.store) ≡ put_numbers (m.extent l.initial.store) (numbered t t.facts) (m.facts l.initial.store))

@@ -7,4 +7,4 @@ returns-in-empty t c = among_none c.args.number c.args.others.now (omega (arith,
 
 pub returns-else-number-first : goal.returns-else-number-first
 returns-else-number-first t c =
-    among_others c.args.number c.args.others.now c.is-among.result (omega (arith, ltb-false)) c.if-number-first.false c.is-among.ensures
+    among_others c.args.number c.args.others.now c.is_among.result (omega (arith, ltb-false)) c.if-number-first.false c.is_among.ensures

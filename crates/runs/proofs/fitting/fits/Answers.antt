@@ -12,8 +12,8 @@ returns-then-name-task c =
     let k = c.args.task.now in
     no_operator (tree_of k) (name_of c.args.name) (omega (arith, operators_length (held k) k.formed))
 
-pub offset-bounds-task-start : goal.offset-bounds-task-start
-offset-bounds-task-start c =
+pub offset_bounds-task-start : goal.offset_bounds-task-start
+offset_bounds-task-start c =
     let k = c.args.task.now in
     let r = (operator_begun k c.args.name.operator c.if-name-task.false).1 in
     omega (arith, r.inside, k.table.entries)
@@ -30,29 +30,29 @@ returns-then-task-start c =
     let r = (operator_begun k c.args.name.operator c.if-name-task.false).1 in
     wrong_number (tree_of k) (name_of c.args.name) (λ e. c.if-task-start.true (r.count ∙ e))
 
-pub overflow-add-start : goal.overflow-add-start
-overflow-add-start c =
+pub overflow_add-start : goal.overflow_add-start
+overflow_add-start c =
     let k = c.args.task.now in
     let r = (operator_begun k c.args.name.operator c.if-name-task.false).1 in
     omega (arith, r.inside, k.table.entries)
 
-pub are-typed-requires : goal.are-typed-requires
-are-typed-requires c =
+pub are_typed-requires : goal.are_typed-requires
+are_typed-requires c =
     let k = c.args.task.now in
     let r = (operator_begun k c.args.name.operator c.if-name-task.false).1 in
     (_, _, ap (λ n. many (parameter (held k)) n (get_or k.operator_at c.args.name.operator 0 + 1)) (sym c.if-task-start.false) ∙ r.parameters)
 
-pub returns-then-are-typed : goal.returns-then-are-typed
-returns-then-are-typed c =
+pub returns-then-are_typed : goal.returns-then-are_typed
+returns-then-are_typed c =
     let k = c.args.task.now in
     let r = (operator_begun k c.args.name.operator c.if-name-task.false).1 in
     let e = ap (λ n. many (parameter (held k)) n (get_or k.operator_at c.args.name.operator 0 + 1)) (sym c.if-task-start.false) ∙ r.parameters in
-    fits_if_distinct (tree_of k) (name_of c.args.name) (omega (arith, operators_length (held k) k.formed)) c.are-distinct.result
-    (c.if-are-typed.ensures _ _ e) c.are-distinct.ensures
+    fits_if_distinct (tree_of k) (name_of c.args.name) (omega (arith, operators_length (held k) k.formed)) c.are_distinct.result
+    (c.if-are_typed.ensures _ _ e) c.are_distinct.ensures
 
-pub returns-else-are-typed : goal.returns-else-are-typed
-returns-else-are-typed c =
+pub returns-else-are_typed : goal.returns-else-are_typed
+returns-else-are_typed c =
     let k = c.args.task.now in
     let r = (operator_begun k c.args.name.operator c.if-name-task.false).1 in
     let e = ap (λ n. many (parameter (held k)) n (get_or k.operator_at c.args.name.operator 0 + 1)) (sym c.if-task-start.false) ∙ r.parameters in
-    c.if-are-typed.false ∙ fits_not (tree_of k) (name_of c.args.name) (omega (arith, operators_length (held k) k.formed)) (c.if-are-typed.ensures _ _ e)
+    c.if-are_typed.false ∙ fits_not (tree_of k) (name_of c.args.name) (omega (arith, operators_length (held k) k.formed)) (c.if-are_typed.ensures _ _ e)

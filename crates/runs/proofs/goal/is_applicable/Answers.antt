@@ -10,17 +10,17 @@ use Rattle.runs.proofs.goal.is_applicable.Goals as goal
 pub bounds-task-name : goal.bounds-task-name
 bounds-task-name c = let k = c.args.task.now in omega (arith, operator_known k (name_of c.args.name) c.requires.fits, k.table.operators)
 
-pub overflow-add-precondition : goal.overflow-add-precondition
-overflow-add-precondition c = let k = c.args.task.now in omega (arith, start_inside k (name_of c.args.name) c.requires.fits, k.table.entries)
+pub overflow_add-precondition : goal.overflow_add-precondition
+overflow_add-precondition c = let k = c.args.task.now in omega (arith, start_inside k (name_of c.args.name) c.requires.fits, k.table.entries)
 
-pub offset-bounds-task-start : goal.offset-bounds-task-start
-offset-bounds-task-start c = let k = c.args.task.now in omega (arith, start_inside k (name_of c.args.name) c.requires.fits, k.table.entries)
+pub offset_bounds-task-start : goal.offset_bounds-task-start
+offset_bounds-task-start c = let k = c.args.task.now in omega (arith, start_inside k (name_of c.args.name) c.requires.fits, k.table.entries)
 
 pub bounds-task-start : goal.bounds-task-start
 bounds-task-start c = let k = c.args.task.now in omega (arith, start_inside k (name_of c.args.name) c.requires.fits, k.table.numbered)
 
-pub overflow-add-precondition-2 : goal.overflow-add-precondition-2
-overflow-add-precondition-2 c =
+pub overflow_add-precondition-2 : goal.overflow_add-precondition-2
+overflow_add-precondition-2 c =
     let k = c.args.task.now in
     omega (arith, start_inside k (name_of c.args.name) c.requires.fits, few_parameters k (name_of c.args.name) c.requires.fits, k.table.entries)
 

@@ -15,8 +15,8 @@ bounds-task-name g c = let k = c.args.task.now in omega (arith, operator_known k
 pub of-sheet-requires : goal.of-sheet-requires
 of-sheet-requires g c = omega (arith, few_objects c.args.task.now (name_of c.args.name) c.requires.fits)
 
-pub put-effect-requires : goal.put-effect-requires
-put-effect-requires g c =
+pub put_effect-requires : goal.put_effect-requires
+put_effect-requires g c =
     let k = c.args.task.now in
     let n = name_of c.args.name in
     record {
@@ -32,8 +32,8 @@ returns g c =
     let k = c.args.task.now in
     let n = name_of c.args.name in
     record {
-      size = c.put-effect.ensures.size;
+      size = c.put_effect.ensures.size;
       set =
-          c.put-effect.ensures.set _ _ (effect_stands k n c.requires.fits)
+          c.put_effect.ensures.set _ _ (effect_stands k n c.requires.fits)
           ∙ ap (λ (z : List ℕ). put_literals (m.extent c.args.store.now) c.args.adds (effect_literals (tree_of k) (shown c.args.image.now) z (operator_of (tree_of k) n.operator).effect) (m.facts c.args.store.now)) c.of-sheet.ensures;
     }

@@ -18,59 +18,59 @@ use Rattle.runs.proofs.Junctions.{agree, over_all, over_one, is_member, member_i
 use Rattle.runs.proofs.Shapes.{begins, formula_kind, ends_after, at_true, at_false, at_atom, at_equal, at_not, at_and, at_or, at_imply, at_forall, at_exists, after_terms, first_formula}
 use Rattle.runs.proofs.Sheets.{one_more_bound, restored}
 use Rattle.runs.proofs.judge.+judge_judge_all_judge_each.Goals as goal
-use Rattle.runs.proofs.judge.+judge_judge_all_judge_each.Goals.{judge-each-then-members-o-eq1+else-part-all, judge-each-else-members-o-eq1}
+use Rattle.runs.proofs.judge.+judge_judge_all_judge_each.Goals.{judge_each-then-members-o-eq1+else-part-all, judge_each-else-members-o-eq1}
 
-pub judge-offset-bounds-task-at : goal.judge-offset-bounds-task-at
-judge-offset-bounds-task-at t c = omega (arith, begins c.requires.stands.2)
+pub judge-offset_bounds-task-at : goal.judge-offset_bounds-task-at
+judge-offset_bounds-task-at t c = omega (arith, begins c.requires.stands.2)
 
 pub judge-bounds-task-at : goal.judge-bounds-task-at
 judge-bounds-task-at t c = omega (arith, begins c.requires.stands.2)
 
-pub judge-kind-at-requires : goal.judge-kind-at-requires
-judge-kind-at-requires t c = let s = c.requires.stands.2 in record { within = begins s; known = omega (arith, formula_kind s) }
+pub judge-kind_at-requires : goal.judge-kind_at-requires
+judge-kind_at-requires t c = let s = c.requires.stands.2 in record { within = begins s; known = omega (arith, formula_kind s) }
 
-pub judge-overflow-add-result : goal.judge-overflow-add-result
-judge-overflow-add-result t c = omega (arith, begins c.requires.stands.2)
+pub judge-overflow_add-result : goal.judge-overflow_add-result
+judge-overflow_add-result t c = omega (arith, begins c.requires.stands.2)
 
-pub judge-overflow-add-result-in-False : goal.judge-overflow-add-result-in-False
-judge-overflow-add-result-in-False t c = omega (arith, begins c.requires.stands.2)
+pub judge-overflow_add-result-in-False : goal.judge-overflow_add-result-in-False
+judge-overflow_add-result-in-False t c = omega (arith, begins c.requires.stands.2)
 
-pub judge-overflow-add-at : goal.judge-overflow-add-at
-judge-overflow-add-at t c = omega (arith, begins c.requires.stands.2)
+pub judge-overflow_add-at : goal.judge-overflow_add-at
+judge-overflow_add-at t c = omega (arith, begins c.requires.stands.2)
 
-pub judge-atom-number-atom-requires : goal.judge-atom-number-atom-requires
-judge-atom-number-atom-requires t c =
+pub judge-atom_number-atom-requires : goal.judge-atom_number-atom-requires
+judge-atom_number-atom-requires t c =
     let p = c.requires.stands in
     let x = at_atom p.2 c.in-Atom.ensures in
     record { room = c.requires.room; objects = c.requires.objects; stand = (x.0, p.1, x.2) }
 
-pub judge-overflow-add-result-in-Atom : goal.judge-overflow-add-result-in-Atom
-judge-overflow-add-result-in-Atom t c = omega (arith, begins c.requires.stands.2)
+pub judge-overflow_add-result-in-Atom : goal.judge-overflow_add-result-in-Atom
+judge-overflow_add-result-in-Atom t c = omega (arith, begins c.requires.stands.2)
 
-pub judge-overflow-add-result-in-Atom-2 : goal.judge-overflow-add-result-in-Atom-2
-judge-overflow-add-result-in-Atom-2 t c = omega (arith, begins c.requires.stands.2)
+pub judge-overflow_add-result-in-Atom-2 : goal.judge-overflow_add-result-in-Atom-2
+judge-overflow_add-result-in-Atom-2 t c = omega (arith, begins c.requires.stands.2)
 
-pub judge-overflow-add-at-in-Equal : goal.judge-overflow-add-at-in-Equal
-judge-overflow-add-at-in-Equal t c = omega (arith, begins c.requires.stands.2)
+pub judge-overflow_add-at-in-Equal : goal.judge-overflow_add-at-in-Equal
+judge-overflow_add-at-in-Equal t c = omega (arith, begins c.requires.stands.2)
 
 pub judge-term-first-requires : goal.judge-term-first-requires
 judge-term-first-requires t c =
     let x = at_equal c.requires.stands.2 c.in-Equal.ensures in
     record { room = c.requires.room; objects = c.requires.objects; stands = (x.0, x.3) }
 
-pub judge-overflow-add-at-in-Equal-2 : goal.judge-overflow-add-at-in-Equal-2
-judge-overflow-add-at-in-Equal-2 t c = omega (arith, begins c.requires.stands.2)
+pub judge-overflow_add-at-in-Equal-2 : goal.judge-overflow_add-at-in-Equal-2
+judge-overflow_add-at-in-Equal-2 t c = omega (arith, begins c.requires.stands.2)
 
 pub judge-term-second-requires : goal.judge-term-second-requires
 judge-term-second-requires t c =
     let x = at_equal c.requires.stands.2 c.in-Equal.ensures in
     record { room = c.requires.room; objects = c.requires.objects; stands = (x.1, x.4) }
 
-pub judge-overflow-add-result-in-Equal : goal.judge-overflow-add-result-in-Equal
-judge-overflow-add-result-in-Equal t c = omega (arith, begins c.requires.stands.2)
+pub judge-overflow_add-result-in-Equal : goal.judge-overflow_add-result-in-Equal
+judge-overflow_add-result-in-Equal t c = omega (arith, begins c.requires.stands.2)
 
-pub judge-overflow-add-at-in-Not : goal.judge-overflow-add-at-in-Not
-judge-overflow-add-at-in-Not t c = omega (arith, begins c.requires.stands.2)
+pub judge-overflow_add-at-in-Not : goal.judge-overflow_add-at-in-Not
+judge-overflow_add-at-in-Not t c = omega (arith, begins c.requires.stands.2)
 
 pub judge-judge-part-requires : goal.judge-judge-part-requires
 judge-judge-part-requires t c =
@@ -78,26 +78,26 @@ judge-judge-part-requires t c =
     let x = at_not p.2 c.in-Not.ensures in
     (omega (arith, begins p.2), (c.requires.image, (c.requires.room, (c.requires.objects, (x.0, p.1, x.2)))))
 
-pub judge-overflow-add-at-in-And : goal.judge-overflow-add-at-in-And
-judge-overflow-add-at-in-And t c = omega (arith, begins c.requires.stands.2)
+pub judge-overflow_add-at-in-And : goal.judge-overflow_add-at-in-And
+judge-overflow_add-at-in-And t c = omega (arith, begins c.requires.stands.2)
 
-pub judge-judge-all-requires : goal.judge-judge-all-requires
-judge-judge-all-requires t c =
+pub judge-judge_all-requires : goal.judge-judge_all-requires
+judge-judge_all-requires t c =
     let p = c.requires.stands in
     let x = at_and p.2 c.in-And.ensures in
     (omega (arith, begins p.2), (c.requires.image, (c.requires.room, (c.requires.objects, (x.0, p.1, x.2)))))
 
-pub judge-overflow-add-at-in-Or : goal.judge-overflow-add-at-in-Or
-judge-overflow-add-at-in-Or t c = omega (arith, begins c.requires.stands.2)
+pub judge-overflow_add-at-in-Or : goal.judge-overflow_add-at-in-Or
+judge-overflow_add-at-in-Or t c = omega (arith, begins c.requires.stands.2)
 
-pub judge-judge-all-requires-in-Or : goal.judge-judge-all-requires-in-Or
-judge-judge-all-requires-in-Or t c =
+pub judge-judge_all-requires-in-Or : goal.judge-judge_all-requires-in-Or
+judge-judge_all-requires-in-Or t c =
     let p = c.requires.stands in
     let x = at_or p.2 c.in-Or.ensures in
     (omega (arith, begins p.2), (c.requires.image, (c.requires.room, (c.requires.objects, (x.0, p.1, x.2)))))
 
-pub judge-overflow-add-at-in-Imply : goal.judge-overflow-add-at-in-Imply
-judge-overflow-add-at-in-Imply t c = omega (arith, begins c.requires.stands.2)
+pub judge-overflow_add-at-in-Imply : goal.judge-overflow_add-at-in-Imply
+judge-overflow_add-at-in-Imply t c = omega (arith, begins c.requires.stands.2)
 
 pub judge-judge-first-requires : goal.judge-judge-first-requires
 judge-judge-first-requires t c =
@@ -123,17 +123,17 @@ judge-judge-second-requires t c =
       ),
     )
 
-pub judge-overflow-add-at-in-Forall : goal.judge-overflow-add-at-in-Forall
-judge-overflow-add-at-in-Forall t c = omega (arith, begins c.requires.stands.2)
+pub judge-overflow_add-at-in-Forall : goal.judge-overflow_add-at-in-Forall
+judge-overflow_add-at-in-Forall t c = omega (arith, begins c.requires.stands.2)
 
-pub judge-judge-each-every-requires : goal.judge-judge-each-every-requires
-judge-judge-each-every-requires t c =
+pub judge-judge_each-every-requires : goal.judge-judge_each-every-requires
+judge-judge_each-every-requires t c =
     let p = c.requires.stands in
     let x = at_forall p.2 c.in-Forall.ensures in
     (omega (arith, begins p.2), (c.requires.image, (x.4, (c.requires.objects, (x.3, (x.0, p.1, x.2))))))
 
-pub judge-overflow-add-at-in-Forall-2 : goal.judge-overflow-add-at-in-Forall-2
-judge-overflow-add-at-in-Forall-2 t c = omega (arith, begins c.requires.stands.2)
+pub judge-overflow_add-at-in-Forall-2 : goal.judge-overflow_add-at-in-Forall-2
+judge-overflow_add-at-in-Forall-2 t c = omega (arith, begins c.requires.stands.2)
 
 pub judge-skip-requires : goal.judge-skip-requires
 judge-skip-requires t c =
@@ -141,17 +141,17 @@ judge-skip-requires t c =
     let x = at_forall p.2 c.in-Forall.ensures in
     (c.args.depth + 1, x.0, p.1, x.2)
 
-pub judge-overflow-add-at-in-Exists : goal.judge-overflow-add-at-in-Exists
-judge-overflow-add-at-in-Exists t c = omega (arith, begins c.requires.stands.2)
+pub judge-overflow_add-at-in-Exists : goal.judge-overflow_add-at-in-Exists
+judge-overflow_add-at-in-Exists t c = omega (arith, begins c.requires.stands.2)
 
-pub judge-judge-each-some-requires : goal.judge-judge-each-some-requires
-judge-judge-each-some-requires t c =
+pub judge-judge_each-some-requires : goal.judge-judge_each-some-requires
+judge-judge_each-some-requires t c =
     let p = c.requires.stands in
     let x = at_exists p.2 c.in-Exists.ensures in
     (omega (arith, begins p.2), (c.requires.image, (x.4, (c.requires.objects, (x.3, (x.0, p.1, x.2))))))
 
-pub judge-overflow-add-at-in-Exists-2 : goal.judge-overflow-add-at-in-Exists-2
-judge-overflow-add-at-in-Exists-2 t c = omega (arith, begins c.requires.stands.2)
+pub judge-overflow_add-at-in-Exists-2 : goal.judge-overflow_add-at-in-Exists-2
+judge-overflow_add-at-in-Exists-2 t c = omega (arith, begins c.requires.stands.2)
 
 pub judge-skip-requires-in-Exists : goal.judge-skip-requires-in-Exists
 judge-skip-requires-in-Exists t c =
@@ -161,12 +161,12 @@ judge-skip-requires-in-Exists t c =
 
 pub judge-unreachable-requires : goal.judge-unreachable-requires
 judge-unreachable-requires t c =
-    let r = c.kind-at.result in
-    let h = c.in-default in
+    let r = c.kind_at.result in
+    let h = c.in_default in
     omega (
       arith,
       formula_kind c.requires.stands.2,
-      c.kind-at.ensures,
+      c.kind_at.ensures,
       other_code r True h.not-True,
       other_code r False h.not-False,
       other_code r Atom h.not-Atom,
@@ -204,7 +204,7 @@ judge-returns-in-Atom t c =
       value = λ f j s.
           let x = at_atom s c.in-Atom.ensures in (
             from (tree_of c.args.task.now) (shown c.args.image.now) (bound c.args.sheet.now c.args.depth) f (atom (get_or c.args.task.now.table.operands.now c.args.at 0) x.0) _ x.1
-                (c.shows.ensures ∙ ap (shown c.args.image.now) (c.atom-number-atom.ensures.atom x.0 j x.2)),
+                (c.shows.ensures ∙ ap (shown c.args.image.now) (c.atom_number-atom.ensures.atom x.0 j x.2)),
             omega (arith, after_terms x.2, c.arity.ensures),
           );
     }
@@ -234,20 +234,20 @@ judge-returns-in-Not t c =
 pub judge-returns-in-And : goal.judge-returns-in-And
 judge-returns-in-And t c =
     record {
-      same = c.judge-all.ensures.same;
+      same = c.judge_all.ensures.same;
       value = λ f j s.
           let x = at_and s c.in-And.ensures in
-          let e = c.judge-all.ensures.value x.0 j x.2 in
+          let e = c.judge_all.ensures.value x.0 j x.2 in
           (from (tree_of c.args.task.now) (shown c.args.image.now) (bound c.args.sheet.now c.args.depth) f (junction all (formulas_of x.0)) _ x.1 e.0, e.1);
     }
 
 pub judge-returns-in-Or : goal.judge-returns-in-Or
 judge-returns-in-Or t c =
     record {
-      same = c.judge-all-in-Or.ensures.same;
+      same = c.judge_all-in-Or.ensures.same;
       value = λ f j s.
           let x = at_or s c.in-Or.ensures in
-          let e = c.judge-all-in-Or.ensures.value x.0 j x.2 in
+          let e = c.judge_all-in-Or.ensures.value x.0 j x.2 in
           (from (tree_of c.args.task.now) (shown c.args.image.now) (bound c.args.sheet.now c.args.depth) f (junction any (formulas_of x.0)) _ x.1 e.0, e.1);
     }
 
@@ -269,11 +269,11 @@ judge-returns-in-Imply t c =
 pub judge-returns-in-Forall : goal.judge-returns-in-Forall
 judge-returns-in-Forall t c =
     record {
-      same = c.judge-each-every.ensures.same;
+      same = c.judge_each-every.ensures.same;
       value = λ f j s.
           let x = at_forall s c.in-Forall.ensures in (
             from (tree_of c.args.task.now) (shown c.args.image.now) (bound c.args.sheet.now c.args.depth) f (quantifier all (get_or c.args.task.now.table.operands.now c.args.at 0) x.0) _ x.1
-                (c.judge-each-every.ensures.value x.0 j x.2),
+                (c.judge_each-every.ensures.value x.0 j x.2),
             c.skip.ensures (c.args.depth + 1) x.0 j x.2,
           );
     }
@@ -281,42 +281,42 @@ judge-returns-in-Forall t c =
 pub judge-returns-in-Exists : goal.judge-returns-in-Exists
 judge-returns-in-Exists t c =
     record {
-      same = c.judge-each-some.ensures.same;
+      same = c.judge_each-some.ensures.same;
       value = λ f j s.
           let x = at_exists s c.in-Exists.ensures in (
             from (tree_of c.args.task.now) (shown c.args.image.now) (bound c.args.sheet.now c.args.depth) f (quantifier any (get_or c.args.task.now.table.operands.now c.args.at 0) x.0) _ x.1
-                (c.judge-each-some.ensures.value x.0 j x.2),
+                (c.judge_each-some.ensures.value x.0 j x.2),
             c.skip-in-Exists.ensures (c.args.depth + 1) x.0 j x.2,
           );
     }
 
-pub judge-all-judge-part-requires : goal.judge-all-judge-part-requires
-judge-all-judge-part-requires t c =
+pub judge_all-judge-part-requires : goal.judge_all-judge-part-requires
+judge_all-judge-part-requires t c =
     let p = c.requires.stand in
     let x = first_formula p.2 c.if-left-eq0.false in
     (omega arith, (c.requires.image, (c.requires.room, (c.requires.objects, (x.0, x.1, x.4)))))
 
-pub judge-all-skip-all-requires : goal.judge-all-skip-all-requires
-judge-all-skip-all-requires t c =
+pub judge_all-skip_all-requires : goal.judge_all-skip_all-requires
+judge_all-skip_all-requires t c =
     let p = c.requires.stand in
     let x = first_formula p.2 c.if-left-eq0.false in
     let e = (c.judge-part.ensures.value x.0 x.1 x.4).1 in
     (c.args.depth, x.2, p.1, subst (λ n. FormulasAt (held c.args.task.now) c.args.depth n (c.args.left - 1) x.2 p.1) (sym e) x.5)
 
-pub judge-all-returns-then-part-all : goal.judge-all-returns-then-part-all
-judge-all-returns-then-part-all t c =
+pub judge_all-returns-then-part-all : goal.judge_all-returns-then-part-all
+judge_all-returns-then-part-all t c =
     record {
       same = c.judge-part.ensures.same;
       value = λ fs j s.
           let x = first_formula s c.if-left-eq0.false in
           let e = c.judge-part.ensures.value x.0 x.1 x.4 in (
             decided (tree_of c.args.task.now) (shown c.args.image.now) (bound c.args.sheet.now c.args.depth) c.args.all c.judge-part.result.0 x.0 x.2 fs x.3 e.0 c.if-part-all.true,
-            c.skip-all.ensures c.args.depth x.2 j (subst (λ n. FormulasAt (held c.args.task.now) c.args.depth n (c.args.left - 1) x.2 j) (sym e.1) x.5),
+            c.skip_all.ensures c.args.depth x.2 j (subst (λ n. FormulasAt (held c.args.task.now) c.args.depth n (c.args.left - 1) x.2 j) (sym e.1) x.5),
           );
     }
 
-pub judge-all-judge-all-requires : goal.judge-all-judge-all-requires
-judge-all-judge-all-requires t c =
+pub judge_all-judge_all-requires : goal.judge_all-judge_all-requires
+judge_all-judge_all-requires t c =
     let p = c.requires.stand in
     let x = first_formula p.2 c.if-left-eq0.false in
     let e = (c.judge-part.ensures.value x.0 x.1 x.4).1 in (
@@ -333,29 +333,29 @@ judge-all-judge-all-requires t c =
       ),
     )
 
-pub judge-all-returns : goal.judge-all-returns
-judge-all-returns t c =
+pub judge_all-returns : goal.judge_all-returns
+judge_all-returns t c =
     let t = tree_of c.args.task.now in
     let w = shown c.args.image.now in
     let d = c.args.depth in
     record {
-      same = c.judge-all.ensures.same ∙ c.judge-part.ensures.same;
+      same = c.judge_all.ensures.same ∙ c.judge-part.ensures.same;
       value = λ fs j s.
           let x = first_formula s c.if-left-eq0.false in
           let e = c.judge-part.ensures.value x.0 x.1 x.4 in
-          let r = c.judge-all.ensures.value x.2 j (subst (λ n. FormulasAt (held c.args.task.now) d n (c.args.left - 1) x.2 j) (sym e.1) x.5) in
-          let q = subst (λ sh. c.judge-all.result.0 ≡ values t w (bound sh d) (junction_for c.args.all) (formulas_of x.2)) c.judge-part.ensures.same r.0 in
-          (left_to t w (bound c.args.sheet.now d) c.args.all c.judge-part.result.0 c.judge-all.result.0 x.0 x.2 fs x.3 e.0 c.if-part-all.false q, r.1);
+          let r = c.judge_all.ensures.value x.2 j (subst (λ n. FormulasAt (held c.args.task.now) d n (c.args.left - 1) x.2 j) (sym e.1) x.5) in
+          let q = subst (λ sh. c.judge_all.result.0 ≡ values t w (bound sh d) (junction_for c.args.all) (formulas_of x.2)) c.judge-part.ensures.same r.0 in
+          (left_to t w (bound c.args.sheet.now d) c.args.all c.judge-part.result.0 c.judge_all.result.0 x.0 x.2 fs x.3 e.0 c.if-part-all.false q, r.1);
     }
 
-pub judge-each-bounds-task-type-number : goal.judge-each-bounds-task-type-number
-judge-each-bounds-task-type-number t c = omega (arith, c.requires.known, declarations_inside (held c.args.task.now) c.args.task.now.formed)
+pub judge_each-bounds-task-type_number : goal.judge_each-bounds-task-type_number
+judge_each-bounds-task-type_number t c = omega (arith, c.requires.known, declarations_inside (held c.args.task.now) c.args.task.now.formed)
 
-pub judge-each-loop-o-init : goal.judge-each-loop-o-init
-judge-each-loop-o-init t c = (set-get_or _ _ 0, λ f j s k l h. let z : ⊥ = omega arith in absurd z)
+pub judge_each-loop-o-init : goal.judge_each-loop-o-init
+judge_each-loop-o-init t c = (set-get_or _ _ 0, λ f j s k l h. let z : ⊥ = omega arith in absurd z)
 
-pub judge-each-judge-part-requires : goal.judge-each-judge-part-requires
-judge-each-judge-part-requires t c =
+pub judge_each-judge-part-requires : goal.judge_each-judge-part-requires
+judge_each-judge-part-requires t c =
     let p = c.requires.stands in
     let O = c.args.sheet.now.objects in
     let n = c.args.task.now.table.sizes.objects in
@@ -374,8 +374,8 @@ judge-each-judge-part-requires t c =
       ),
     )
 
-pub judge-each-returns-then-part-all : goal.judge-each-returns-then-part-all
-judge-each-returns-then-part-all t c =
+pub judge_each-returns-then-part-all : goal.judge_each-returns-then-part-all
+judge_each-returns-then-part-all t c =
     let T = c.args.task.now in
     let O = c.args.sheet.now.objects in
     let d = c.args.depth in
@@ -388,36 +388,36 @@ judge-each-returns-then-part-all t c =
       same = search rules;
       value = λ f j s.
           let v = (c.judge-part.ensures.value f j s).0 ∙ ap (λ sh. value (tree_of T) (shown c.args.image.now) sh f) e in
-          sym (over_one c.args.all c.judge-part.result.0 (λ o. value (tree_of T) (shown c.args.image.now) (bind (bound c.args.sheet.now d) o) f) (members (tree_of T) c.args.type-number) o
-          (is_member (held T) T.formed c.args.type-number c.requires.known o c.loop-o-test.true (eq-eqb _ _ c.if-members-o-eq1.true))
+          sym (over_one c.args.all c.judge-part.result.0 (λ o. value (tree_of T) (shown c.args.image.now) (bind (bound c.args.sheet.now d) o) f) (members (tree_of T) c.args.type_number) o
+          (is_member (held T) T.formed c.args.type_number c.requires.known o c.loop-o-test.true (eq-eqb _ _ c.if-members-o-eq1.true))
           (sym v) c.if-part-all.true);
     }
 
-pub judge-each-loop-o-preserved : goal.judge-each-loop-o-preserved
-judge-each-loop-o-preserved t c =
+pub judge_each-loop-o-preserved : goal.judge_each-loop-o-preserved
+judge_each-loop-o-preserved t c =
     let T = c.args.task.now in
     let O = c.args.sheet.now.objects in
     let d = c.args.depth in
     let o = c.loop-o.o in
     let l : d < length O = search rules in
     let e = one_more_bound c.loop-o.bound.sheet.now.objects O d (get_or O d 0) o l c.loop-o.invariant.0 in
-    let P : Formula → ℕ → Type 0 = λ f k. in_set (get_or T.table.operands.now c.args.type-number 0) k ≡ true → value (tree_of T) (shown c.args.image.now) (bind (bound c.args.sheet.now d) k) f ≡ c.args.all in
+    let P : Formula → ℕ → Type 0 = λ f k. in_set (get_or T.table.operands.now c.args.type_number 0) k ≡ true → value (tree_of T) (shown c.args.image.now) (bind (bound c.args.sheet.now d) k) f ≡ c.args.all in
     elim c.if-members-o-eq1.branch [
-      | judge-each-then-members-o-eq1+else-part-all w ↦ (
+      | judge_each-then-members-o-eq1+else-part-all w ↦ (
         rw w.bound-is (restored _ _ _ _ _ _ c.loop-o.invariant.0 (ap (λ (s : Sheet). s.objects) w.judge-part.ensures.same)),
         λ f j s. below_more (P f) o (c.loop-o.invariant.1 f j s)
             (λ h. sym ((w.judge-part.ensures.value f j s).0 ∙ ap (λ sh. value (tree_of T) (shown c.args.image.now) sh f) e) ∙ agree _ _ w.if-part-all.false),
       )
-      | judge-each-else-members-o-eq1 w ↦ (
+      | judge_each-else-members-o-eq1 w ↦ (
         rw w.bound-is c.loop-o.invariant.0,
         λ f j s. below_more (P f) o (c.loop-o.invariant.1 f j s) (λ h. absurd (w.if-members-o-eq1.false (eqb-true _ _ h))),
       )
     ]
 
-pub judge-each-returns : goal.judge-each-returns
-judge-each-returns t c =
+pub judge_each-returns : goal.judge_each-returns
+judge_each-returns t c =
     record {
       same = search rules;
-      value = λ f j s. sym (over_all c.args.all (λ o. value (tree_of c.args.task.now) (shown c.args.image.now) (bind (bound c.args.sheet.now c.args.depth) o) f) (members (tree_of c.args.task.now) c.args.type-number)
-          (λ o i. let m = member_is (held c.args.task.now) c.args.task.now.formed c.args.type-number c.requires.known o i in c.loop-o.invariant.1 f j s o (omega (arith, m.0)) m.1));
+      value = λ f j s. sym (over_all c.args.all (λ o. value (tree_of c.args.task.now) (shown c.args.image.now) (bind (bound c.args.sheet.now c.args.depth) o) f) (members (tree_of c.args.task.now) c.args.type_number)
+          (λ o i. let m = member_is (held c.args.task.now) c.args.task.now.formed c.args.type_number c.requires.known o i in c.loop-o.invariant.1 f j s o (omega (arith, m.0)) m.1));
     }

@@ -23,14 +23,14 @@ before t p k r h l e = omega (arith, arity_small (held t) t.formed p h)
 next_term : {t : Table} {v p i : ℕ} {ts : List Term} {j : ℕ} → TermsAt t v p i ts j → (k r : ℕ) → k < r → r ≡ arity t p → TermAt t v (i + k) (get_or ts k (object 0))
 next_term s k r l e = each_term s k (omega arith)
 
-pub overflow-mul-digits : goal.overflow-mul-digits
-overflow-mul-digits c =
+pub overflow_mul-digits : goal.overflow_mul-digits
+overflow_mul-digits c =
     let t = c.args.task.now in
     let b = before t c.args.predicate c.loop-k.k c.arity-k-end.result c.requires.stand.2.predicate c.loop-k-test.true c.arity-k-end.ensures in
     omega (arith, few_digits c.loop-k.digits t.table.sizes.objects c.loop-k.k c.loop-k.invariant.0 (omega arith) b)
 
-pub overflow-add-at : goal.overflow-add-at
-overflow-add-at c = let p = c.requires.stand in omega (arith, term_begins (next_term p.2 c.loop-k.k c.arity-k-end.result c.loop-k-test.true c.arity-k-end.ensures))
+pub overflow_add-at : goal.overflow_add-at
+overflow_add-at c = let p = c.requires.stand in omega (arith, term_begins (next_term p.2 c.loop-k.k c.arity-k-end.result c.loop-k-test.true c.arity-k-end.ensures))
 
 pub term-requires : goal.term-requires
 term-requires c =
@@ -41,8 +41,8 @@ term-requires c =
       stands = (get_or p.0 c.loop-k.k (object 0), next_term p.2 c.loop-k.k c.arity-k-end.result c.loop-k-test.true c.arity-k-end.ensures);
     }
 
-pub overflow-add-digits : goal.overflow-add-digits
-overflow-add-digits c =
+pub overflow_add-digits : goal.overflow_add-digits
+overflow_add-digits c =
     let t = c.args.task.now in
     let b = before t c.args.predicate c.loop-k.k c.arity-k-end.result c.requires.stand.2.predicate c.loop-k-test.true c.arity-k-end.ensures in
     omega (arith, few_digits c.loop-k.digits t.table.sizes.objects c.loop-k.k c.loop-k.invariant.0 (omega arith) b, c.term.ensures.small)
@@ -65,7 +65,7 @@ loop-k-preserved c =
     )
 
 -- the digits of all arguments, and each is an object
-all_digits : (c : goal.After-first-atom) (ts : List Term) (j : ℕ) → TermsAt (held c.args.task.now) c.args.depth c.args.predicate c.args.at ts j
+all_digits : (c : goal.After-first_atom) (ts : List Term) (j : ℕ) → TermsAt (held c.args.task.now) c.args.depth c.args.predicate c.args.at ts j
     → (c.loop-k.digits ≡ digits (tree_of c.args.task.now).objects (map (object_of (bound c.args.sheet.now c.args.depth)) ts))
     × Within (tree_of c.args.task.now).objects (map (object_of (bound c.args.sheet.now c.args.depth)) ts)
 all_digits c ts j s =
@@ -77,12 +77,12 @@ all_digits c ts j s =
     subst (λ n. D n ts) o (subst (D t.table.sizes.objects) e (c.loop-k.invariant.1 ts j s))
 
 -- the number that was found is that of the atom
-found : (c : goal.After-first-atom) (ts : List Term) (j : ℕ) → TermsAt (held c.args.task.now) c.args.depth c.args.predicate c.args.at ts j
-    → c.first-atom.result + c.loop-k.digits ≡ atom_of (tree_of c.args.task.now) (bound c.args.sheet.now c.args.depth) c.args.predicate ts
-found c ts j s = omega (arith, c.first-atom.ensures, (all_digits c ts j s).0)
+found : (c : goal.After-first_atom) (ts : List Term) (j : ℕ) → TermsAt (held c.args.task.now) c.args.depth c.args.predicate c.args.at ts j
+    → c.first_atom.result + c.loop-k.digits ≡ atom_of (tree_of c.args.task.now) (bound c.args.sheet.now c.args.depth) c.args.predicate ts
+found c ts j s = omega (arith, c.first_atom.ensures, (all_digits c ts j s).0)
 
 -- it is below the number of atoms
-small : (c : goal.After-first-atom) → c.first-atom.result + c.loop-k.digits < c.args.task.now.atoms
+small : (c : goal.After-first_atom) → c.first_atom.result + c.loop-k.digits < c.args.task.now.atoms
 small c =
     let t = c.args.task.now in
     let p = c.requires.stand in
@@ -92,8 +92,8 @@ small c =
     (length-map p.0 of ∙ as_many_terms s ∙ sym (arity_at (held t) t.formed c.args.predicate s.predicate)) (all_digits c p.0 p.1 s).1 in
     omega (arith, found c p.0 p.1 s, k.0, t.counted)
 
-pub overflow-add-result : goal.overflow-add-result
-overflow-add-result c = omega (arith, small c, atoms_bounded (held c.args.task.now) c.args.task.now.formed, c.args.task.now.counted)
+pub overflow_add-result : goal.overflow_add-result
+overflow_add-result c = omega (arith, small c, atoms_bounded (held c.args.task.now) c.args.task.now.formed, c.args.task.now.counted)
 
 pub returns : goal.returns
 returns c = record { small = small c; atom = found c }

@@ -31,8 +31,8 @@ more-atoms c =
     let e = atoms_more (tree_of t).objects (tree_of t).arities c.loop-p.p (omega (arith, m)) in
     omega (arith, e, own-atoms c, c.loop-p.invariant)
 
-pub overflow-add-first : goal.overflow-add-first
-overflow-add-first c =
+pub overflow_add-first : goal.overflow_add-first
+overflow_add-first c =
     let t = c.args.task.now in
     omega (arith, more-atoms c, atoms_most (tree_of t).objects (tree_of t).arities (c.loop-p.p + 1), atoms_bounded (held t) t.formed)
 

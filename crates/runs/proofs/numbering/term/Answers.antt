@@ -12,10 +12,10 @@ use Rattle.runs.proofs.numbering.term.Goals as goal
 
 -- what is no object is a variable
 is-variable : (c : goal.After-result·1) (x : Term) → TermAt (held c.args.task.now) c.args.depth c.args.at x → get_or c.args.task.now.table.kinds.now c.args.at 0 ≡ 11
-is-variable c x s = ⊎_elim (λ e. absurd (other_code _ Object c.in-default.not-Object (c.kind-at.ensures ∙ e))) (λ e. e) (term_kind s)
+is-variable c x s = ⊎_elim (λ e. absurd (other_code _ Object c.in_default.not-Object (c.kind_at.ensures ∙ e))) (λ e. e) (term_kind s)
 
-pub returns-in-default : goal.returns-in-default
-returns-in-default c =
+pub returns-in_default : goal.returns-in_default
+returns-in_default c =
     let o = get_or c.args.task.now.table.operands.now c.args.at 0 in
     let objects = c.args.sheet.now.objects in
     record {

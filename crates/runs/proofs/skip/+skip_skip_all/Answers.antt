@@ -24,44 +24,44 @@ listed : {t : Table} {v i : ℕ} {f : Formula} {j : ℕ} → FormulaAt t v i f j
 listed s r e (inl h) = let x = at_and s (code_is r And _ e h) in (x.0, x.2)
 listed s r e (inr h) = let x = at_or s (code_is r Or _ e h) in (x.0, x.2)
 
-pub skip-offset-bounds-task-at : goal.skip-offset-bounds-task-at
-skip-offset-bounds-task-at t c = omega (arith, begins c.requires.3)
+pub skip-offset_bounds-task-at : goal.skip-offset_bounds-task-at
+skip-offset_bounds-task-at t c = omega (arith, begins c.requires.3)
 
 pub skip-bounds-task-at : goal.skip-bounds-task-at
 skip-bounds-task-at t c = omega (arith, begins c.requires.3)
 
-pub skip-kind-at-requires : goal.skip-kind-at-requires
-skip-kind-at-requires t c = record { within = begins c.requires.3; known = omega (arith, formula_kind c.requires.3) }
+pub skip-kind_at-requires : goal.skip-kind_at-requires
+skip-kind_at-requires t c = record { within = begins c.requires.3; known = omega (arith, formula_kind c.requires.3) }
 
-pub skip-overflow-add-result : goal.skip-overflow-add-result
-skip-overflow-add-result t c = omega (arith, begins c.requires.3)
+pub skip-overflow_add-result : goal.skip-overflow_add-result
+skip-overflow_add-result t c = omega (arith, begins c.requires.3)
 
-pub skip-overflow-add-result-in-Atom : goal.skip-overflow-add-result-in-Atom
-skip-overflow-add-result-in-Atom t c = omega (arith, begins c.requires.3)
+pub skip-overflow_add-result-in-Atom : goal.skip-overflow_add-result-in-Atom
+skip-overflow_add-result-in-Atom t c = omega (arith, begins c.requires.3)
 
-pub skip-overflow-add-result-in-Equal : goal.skip-overflow-add-result-in-Equal
-skip-overflow-add-result-in-Equal t c = omega (arith, begins c.requires.3)
+pub skip-overflow_add-result-in-Equal : goal.skip-overflow_add-result-in-Equal
+skip-overflow_add-result-in-Equal t c = omega (arith, begins c.requires.3)
 
-pub skip-overflow-add-at : goal.skip-overflow-add-at
-skip-overflow-add-at t c = omega (arith, begins c.requires.3)
+pub skip-overflow_add-at : goal.skip-overflow_add-at
+skip-overflow_add-at t c = omega (arith, begins c.requires.3)
 
 pub skip-skip-requires : goal.skip-skip-requires
 skip-skip-requires t c =
     let p = c.requires in
-    let x = single p.3 c.kind-at.result c.kind-at.ensures c.in-Not.is in
+    let x = single p.3 c.kind_at.result c.kind_at.ensures c.in-Not.is in
     (omega (arith, begins p.3), (x.0, x.1, p.2, x.2))
 
-pub skip-overflow-add-at-in-And : goal.skip-overflow-add-at-in-And
-skip-overflow-add-at-in-And t c = omega (arith, begins c.requires.3)
+pub skip-overflow_add-at-in-And : goal.skip-overflow_add-at-in-And
+skip-overflow_add-at-in-And t c = omega (arith, begins c.requires.3)
 
-pub skip-skip-all-requires : goal.skip-skip-all-requires
-skip-skip-all-requires t c =
+pub skip-skip_all-requires : goal.skip-skip_all-requires
+skip-skip_all-requires t c =
     let p = c.requires in
-    let x = listed p.3 c.kind-at.result c.kind-at.ensures c.in-And.is in
+    let x = listed p.3 c.kind_at.result c.kind_at.ensures c.in-And.is in
     (omega (arith, begins p.3), (p.0, x.0, p.2, x.1))
 
-pub skip-overflow-add-at-in-Imply : goal.skip-overflow-add-at-in-Imply
-skip-overflow-add-at-in-Imply t c = omega (arith, begins c.requires.3)
+pub skip-overflow_add-at-in-Imply : goal.skip-overflow_add-at-in-Imply
+skip-overflow_add-at-in-Imply t c = omega (arith, begins c.requires.3)
 
 pub skip-skip-second-requires : goal.skip-skip-second-requires
 skip-skip-second-requires t c =
@@ -76,8 +76,8 @@ skip-skip-requires-in-Imply t c =
     let e = c.skip-second.ensures p.0 x.0 x.2 x.4 in
     (omega (arith, begins p.3, ends_after x.4, e), (p.0, x.1, p.2, subst (λ n. FormulaAt (held c.args.task.now) p.0 n x.1 p.2) (sym e) x.5))
 
-pub skip-overflow-add-result-in-default : goal.skip-overflow-add-result-in-default
-skip-overflow-add-result-in-default t c = omega (arith, begins c.requires.3)
+pub skip-overflow_add-result-in_default : goal.skip-overflow_add-result-in_default
+skip-overflow_add-result-in_default t c = omega (arith, begins c.requires.3)
 
 pub skip-returns-in-Atom : goal.skip-returns-in-Atom
 skip-returns-in-Atom t c v f j s = let x = at_atom s c.in-Atom.ensures in omega (arith, after_terms x.2, c.arity.ensures)
@@ -87,13 +87,13 @@ skip-returns-in-Equal t c v f j s = let x = at_equal s c.in-Equal.ensures in sym
 
 pub skip-returns-in-Not : goal.skip-returns-in-Not
 skip-returns-in-Not t c v f j s =
-    let x = single s c.kind-at.result c.kind-at.ensures c.in-Not.is in
+    let x = single s c.kind_at.result c.kind_at.ensures c.in-Not.is in
     c.skip.ensures x.0 x.1 j x.2
 
 pub skip-returns-in-And : goal.skip-returns-in-And
 skip-returns-in-And t c v f j s =
-    let x = listed s c.kind-at.result c.kind-at.ensures c.in-And.is in
-    c.skip-all.ensures v x.0 j x.1
+    let x = listed s c.kind_at.result c.kind_at.ensures c.in-And.is in
+    c.skip_all.ensures v x.0 j x.1
 
 pub skip-returns-in-Imply : goal.skip-returns-in-Imply
 skip-returns-in-Imply t c v f j s =
@@ -101,15 +101,15 @@ skip-returns-in-Imply t c v f j s =
     let e = c.skip-second.ensures v x.0 x.2 x.4 in
     c.skip-in-Imply.ensures v x.1 j (subst (λ n. FormulaAt (held c.args.task.now) v n x.1 j) (sym e) x.5)
 
-pub skip-returns-in-default : goal.skip-returns-in-default
-skip-returns-in-default t c v f j s =
+pub skip-returns-in_default : goal.skip-returns-in_default
+skip-returns-in_default t c v f j s =
     let k = get_or c.args.task.now.table.kinds.now c.args.at 0 in
-    let r = c.kind-at.result in
-    let h = c.in-default in
+    let r = c.kind_at.result in
+    let h = c.in_default in
     let q : k ≤ 1 = omega (
       arith,
       formula_kind s,
-      c.kind-at.ensures,
+      c.kind_at.ensures,
       other_code r Atom h.not-Atom,
       other_code r Equal h.not-Equal,
       other_code r Not h.not-Not,
@@ -121,21 +121,21 @@ skip-returns-in-default t c v f j s =
     ) in
     ⊎_elim (λ e. sym (at_true s (sym e)).1) (λ n. let e : ◌≡◌ {A = ℕ} 1 k = omega arith in sym (at_false s e).1) (cases_eq k 0)
 
-pub skip-all-skip-next-requires : goal.skip-all-skip-next-requires
-skip-all-skip-next-requires t c =
+pub skip_all-skip-next-requires : goal.skip_all-skip-next-requires
+skip_all-skip-next-requires t c =
     let p = c.requires in
     let x = first_formula p.3 c.if-left-eq0.false in
     (omega arith, (p.0, x.0, x.1, x.4))
 
-pub skip-all-skip-all-requires : goal.skip-all-skip-all-requires
-skip-all-skip-all-requires t c =
+pub skip_all-skip_all-requires : goal.skip_all-skip_all-requires
+skip_all-skip_all-requires t c =
     let p = c.requires in
     let x = first_formula p.3 c.if-left-eq0.false in
     let e = c.skip-next.ensures p.0 x.0 x.1 x.4 in
     (omega (arith, begins x.4, ends_after x.4, e), (p.0, x.2, p.2, subst (λ n. FormulasAt (held c.args.task.now) p.0 n (c.args.left - 1) x.2 p.2) (sym e) x.5))
 
-pub skip-all-returns : goal.skip-all-returns
-skip-all-returns t c v fs j s =
+pub skip_all-returns : goal.skip_all-returns
+skip_all-returns t c v fs j s =
     let x = first_formula s c.if-left-eq0.false in
     let e = c.skip-next.ensures v x.0 x.1 x.4 in
-    c.skip-all.ensures v x.2 j (subst (λ n. FormulasAt (held c.args.task.now) v n (c.args.left - 1) x.2 j) (sym e) x.5)
+    c.skip_all.ensures v x.2 j (subst (λ n. FormulasAt (held c.args.task.now) v n (c.args.left - 1) x.2 j) (sym e) x.5)

@@ -4,5 +4,5 @@ use Rattle.runs.proofs.skip.+skip_skip_all.Given as goal
 abbrev pub decreases-skip : goal.decreases-skip
 decreases-skip l = 2 * (l.task.now.table.sizes.entries - l.at)
 
-abbrev pub decreases-skip-all : goal.decreases-skip-all
-decreases-skip-all l = 2 * (l.task.now.table.sizes.entries - l.at) + 1
+abbrev pub decreases-skip_all : goal.decreases-skip_all
+decreases-skip_all l = 2 * (l.task.now.table.sizes.entries - l.at) + 1

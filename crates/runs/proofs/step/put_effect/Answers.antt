@@ -27,12 +27,12 @@ room g c =
     let p = c.requires.stands in
     let k = c.args.task.now in
     let ls = effect_literals (tree_of k) (shown c.args.image.now) (bound c.loop-at.sheet c.args.depth) p.0 in
-    let h = full ls c.loop-at.from (kept c.literals-from-window.result) (c.literals-from-window.ensures.found p.0 p.1 p.2) (omega (arith, c.literals-from-window.ensures.counted)) in
+    let h = full ls c.loop-at.from (kept c.literals_from-window.result) (c.literals_from-window.ensures.found p.0 p.1 p.2) (omega (arith, c.literals_from-window.ensures.counted)) in
     let m = few_literals p.2 k.table.entries (tree_of k) (omega (arith, same_objects (held k) k.formed, k.table.objects)) (shown c.args.image.now) (bound c.loop-at.sheet c.args.depth) in
     omega arith
 
-pub literals-from-window-requires : goal.literals-from-window-requires
-literals-from-window-requires g c =
+pub literals_from-window-requires : goal.literals_from-window-requires
+literals_from-window-requires g c =
     record {
       image = c.requires.image;
       room = c.requires.room;
@@ -40,8 +40,8 @@ literals-from-window-requires g c =
       stands = c.requires.stands;
     }
 
-pub overflow-add-from : goal.overflow-add-from
-overflow-add-from g c = let r = room g c in omega arith
+pub overflow_add-from : goal.overflow_add-from
+overflow_add-from g c = let r = room g c in omega arith
 
 pub loop-at-smaller : goal.loop-at-smaller
 loop-at-smaller g c = let r = room g c in omega arith
@@ -50,26 +50,26 @@ pub returns-then-window-lt64 : goal.returns-then-window-lt64
 returns-then-window-lt64 g c =
     let m = g.S.Store in
     let inv = c.loop-at.invariant in
-    let r = c.literals-from-window.result in
+    let r = c.literals_from-window.result in
     record {
-      same = c.literals-from-window.ensures.same ∙ inv.0;
+      same = c.literals_from-window.ensures.same ∙ inv.0;
       size = c.put_window.ensures.size ∙ inv.1;
       set = λ e j h.
-          let f = by_first_sheet c.args.task.now c.args.image.now r c.loop-at.sheet c.args.sheet.now c.args.depth c.loop-at.from e inv.0 (c.literals-from-window.ensures.found e j h) in
+          let f = by_first_sheet c.args.task.now c.args.image.now r c.loop-at.sheet c.args.sheet.now c.args.depth c.loop-at.from e inv.0 (c.literals_from-window.ensures.found e j h) in
           put_last (m.extent c.args.store.now) c.args.adds _ c.loop-at.from (m.facts c.args.store.now) (m.facts c.loop-at.store) _ (kept r) (inv.2 e j h) f
           (c.put_window.ensures.set ∙ ap (λ (n : ℕ). put_literals n c.args.adds (kept r) (m.facts c.loop-at.store)) inv.1)
-          (omega (arith, c.literals-from-window.ensures.counted));
+          (omega (arith, c.literals_from-window.ensures.counted));
     }
 
 pub loop-at-preserved : goal.loop-at-preserved
 loop-at-preserved g c =
     let m = g.S.Store in
     let inv = c.loop-at.invariant in
-    let r = c.literals-from-window.result in (
-      c.literals-from-window.ensures.same ∙ inv.0,
+    let r = c.literals_from-window.result in (
+      c.literals_from-window.ensures.same ∙ inv.0,
       c.put_window.ensures.size ∙ inv.1,
       λ e j h.
-          let f = by_first_sheet c.args.task.now c.args.image.now r c.loop-at.sheet c.args.sheet.now c.args.depth c.loop-at.from e inv.0 (c.literals-from-window.ensures.found e j h) in
+          let f = by_first_sheet c.args.task.now c.args.image.now r c.loop-at.sheet c.args.sheet.now c.args.depth c.loop-at.from e inv.0 (c.literals_from-window.ensures.found e j h) in
           put_window (m.extent c.args.store.now) c.args.adds _ c.loop-at.from (m.facts c.args.store.now) (m.facts c.loop-at.store) _ (kept r) (inv.2 e j h) f
           (c.put_window.ensures.set ∙ ap (λ (n : ℕ). put_literals n c.args.adds (kept r) (m.facts c.loop-at.store)) inv.1),
     )

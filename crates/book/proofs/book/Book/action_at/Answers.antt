@@ -4,17 +4,17 @@ use Rattle.book.specs.Named.{SomeBody, body_end}
 use Rattle.book.proofs.Places.{some_action, some_body, next_action}
 use Rattle.book.proofs.book.Book.action_at.Goals as goal
 
-pub end-of-name-requires : goal.end-of-name-requires
-end-of-name-requires c = some_action (held c.args.self.now) c.args.self.now.formed c.loop-k.-k c.loop-k.at (omega arith) c.loop-k.invariant
+pub end_of_name-requires : goal.end_of_name-requires
+end_of_name-requires c = some_action (held c.args.self.now) c.args.self.now.formed c.loop-k._k c.loop-k.at (omega arith) c.loop-k.invariant
 
-pub end-of-body-at-requires : goal.end-of-body-at-requires
-end-of-body-at-requires c =
+pub end_of_body-at-requires : goal.end_of_body-at-requires
+end_of_body-at-requires c =
     let t = held c.args.self.now in
-    subst (λ x. SomeBody t x) (sym c.end-of-name.ensures) (some_body t c.args.self.now.formed c.loop-k.-k c.loop-k.at (omega arith) c.loop-k.invariant)
+    subst (λ x. SomeBody t x) (sym c.end_of_name.ensures) (some_body t c.args.self.now.formed c.loop-k._k c.loop-k.at (omega arith) c.loop-k.invariant)
 
 pub loop-k-preserved : goal.loop-k-preserved
 loop-k-preserved c =
     let t = held c.args.self.now in
-    c.end-of-body-at.ensures
-    ∙ ap (body_end t) c.end-of-name.ensures
-    ∙ next_action t c.args.self.now.formed c.loop-k.-k c.loop-k.at (omega arith) c.loop-k.invariant
+    c.end_of_body-at.ensures
+    ∙ ap (body_end t) c.end_of_name.ensures
+    ∙ next_action t c.args.self.now.formed c.loop-k._k c.loop-k.at (omega arith) c.loop-k.invariant

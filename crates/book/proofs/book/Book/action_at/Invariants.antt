@@ -5,4 +5,4 @@ use Rattle.book.proofs.book.Book.action_at.Given as goal
 
 -- here the next action begins
 abbrev pub invariant-loop-k : goal.invariant-loop-k
-invariant-loop-k l = l.at ≡ action_place (held l.self) l.-k
+invariant-loop-k l = l.at ≡ action_place (held l.self) l._k

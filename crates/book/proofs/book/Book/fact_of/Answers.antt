@@ -3,14 +3,14 @@ use Rattle.book.specs.Held.{held}
 use Rattle.book.proofs.Grouped.{groups_inside, relevant_rises, fact_is, fact_small}
 use Rattle.book.proofs.book.Book.fact_of.Goals as goal
 
-pub slice-bounds-place-of-end : goal.slice-bounds-place-of-end
-slice-bounds-place-of-end c = let b = c.args.self.now in omega (arith, groups_inside (held b) b.formed b.table.numbered)
+pub slice_bounds-place_of-end : goal.slice_bounds-place_of-end
+slice_bounds-place_of-end c = let b = c.args.self.now in omega (arith, groups_inside (held b) b.formed b.table.numbered)
 
-pub place-of-requires : goal.place-of-requires
-place-of-requires c = let b = c.args.self.now in relevant_rises (held b) b.formed b.table.numbered
+pub place_of-requires : goal.place_of-requires
+place_of-requires c = let b = c.args.self.now in relevant_rises (held b) b.formed b.table.numbered
 
-pub overflow-cast-result : goal.overflow-cast-result
-overflow-cast-result c =
+pub overflow_cast-result : goal.overflow_cast-result
+overflow_cast-result c =
     let b = c.args.self.now in
     omega (arith, fact_small (held b) b.formed b.table.numbered c.args.atom c.in-Some.place c.in-Some.ensures, b.table.few, b.table.atoms)
 

@@ -8,47 +8,47 @@ use Rattle.book.proofs.Places.{some_action, some_body, next_action, name_inside,
 use Rattle.book.proofs.Searching.{passed_more, passed_all, passed_by, found}
 use Rattle.book.proofs.book.Book.find.Goals as goal
 
-pub end-of-name-end-requires : goal.end-of-name-end-requires
-end-of-name-end-requires c = some_action (held c.args.self.now) c.args.self.now.formed c.loop-k.k c.loop-k.at (omega arith) c.loop-k.invariant.0
+pub end_of_name-end-requires : goal.end_of_name-end-requires
+end_of_name-end-requires c = some_action (held c.args.self.now) c.args.self.now.formed c.loop-k.k c.loop-k.at (omega arith) c.loop-k.invariant.0
 
-pub name-at-found-requires : goal.name-at-found-requires
-name-at-found-requires c =
+pub name_at-found-requires : goal.name_at-found-requires
+name_at-found-requires c =
     let b = c.args.self.now in
     let w = name_inside (held b) b.formed c.loop-k.k c.loop-k.at (omega arith) c.loop-k.invariant.0 b.table.numbered in
-    let e = c.end-of-name-end.ensures in
+    let e = c.end_of_name-end.ensures in
     (omega (arith, w.0, e), omega (arith, w.1, e))
 
-pub returns-then-is-before : goal.returns-then-is-before
-returns-then-is-before c =
+pub returns-then-is_before : goal.returns-then-is_before
+returns-then-is_before c =
     let b = c.args.self.now in
     let m = name_of c.args.name in
-    let e = c.name-at-found.ensures ∙ ap (name_in b.table.operands.now c.loop-k.at) c.end-of-name-end.ensures ∙ name_here (held b) b.formed c.loop-k.k c.loop-k.at (omega arith) c.loop-k.invariant.0 b.table.numbered m in
-    let p = ap (λ (n : Name). precedes (listed m) (listed n)) (sym e) ∙ sym c.is-before-then-not-is-before.ensures ∙ c.if-is-before.true in
+    let e = c.name_at-found.ensures ∙ ap (name_in b.table.operands.now c.loop-k.at) c.end_of_name-end.ensures ∙ name_here (held b) b.formed c.loop-k.k c.loop-k.at (omega arith) c.loop-k.invariant.0 b.table.numbered m in
+    let p = ap (λ (n : Name). precedes (listed m) (listed n)) (sym e) ∙ sym c.is_before-then-not-is_before.ensures ∙ c.if-is_before.true in
     let w = passed_by (held b) b.formed b.table.numbered m c.loop-k.k (omega arith) c.loop-k.invariant.1 p in
     record { number = w.number; exact = w.exact }
 
-pub returns-else-is-before : goal.returns-else-is-before
-returns-else-is-before c =
+pub returns-else-is_before : goal.returns-else-is_before
+returns-else-is_before c =
     let b = c.args.self.now in
     let m = name_of c.args.name in
-    let e = c.name-at-found.ensures ∙ ap (name_in b.table.operands.now c.loop-k.at) c.end-of-name-end.ensures ∙ name_here (held b) b.formed c.loop-k.k c.loop-k.at (omega arith) c.loop-k.invariant.0 b.table.numbered m in
-    let p = ap (λ (n : Name). precedes (listed n) (listed m)) (sym e) ∙ sym c.is-before.ensures ∙ c.if-not-is-before.true in
-    let q = ap (λ (n : Name). precedes (listed m) (listed n)) (sym e) ∙ sym c.is-before-then-not-is-before.ensures ∙ c.if-is-before.false in
+    let e = c.name_at-found.ensures ∙ ap (name_in b.table.operands.now c.loop-k.at) c.end_of_name-end.ensures ∙ name_here (held b) b.formed c.loop-k.k c.loop-k.at (omega arith) c.loop-k.invariant.0 b.table.numbered m in
+    let p = ap (λ (n : Name). precedes (listed n) (listed m)) (sym e) ∙ sym c.is_before.ensures ∙ c.if-not-is_before.true in
+    let q = ap (λ (n : Name). precedes (listed m) (listed n)) (sym e) ∙ sym c.is_before-then-not-is_before.ensures ∙ c.if-is_before.false in
     let w = found (held b) b.formed b.table.numbered m c.loop-k.k (omega arith) p q in
     record { number = w.number; exact = w.exact }
 
-pub end-of-body-at-requires : goal.end-of-body-at-requires
-end-of-body-at-requires c =
+pub end_of_body-at-requires : goal.end_of_body-at-requires
+end_of_body-at-requires c =
     let t = held c.args.self.now in
-    subst (λ x. SomeBody t x) (sym c.end-of-name-end.ensures) (some_body t c.args.self.now.formed c.loop-k.k c.loop-k.at (omega arith) c.loop-k.invariant.0)
+    subst (λ x. SomeBody t x) (sym c.end_of_name-end.ensures) (some_body t c.args.self.now.formed c.loop-k.k c.loop-k.at (omega arith) c.loop-k.invariant.0)
 
 pub loop-k-preserved : goal.loop-k-preserved
 loop-k-preserved c =
     let b = c.args.self.now in
     let m = name_of c.args.name in
-    let e = c.name-at-found.ensures ∙ ap (name_in b.table.operands.now c.loop-k.at) c.end-of-name-end.ensures ∙ name_here (held b) b.formed c.loop-k.k c.loop-k.at (omega arith) c.loop-k.invariant.0 b.table.numbered m in
-    let p = ap (λ (n : Name). precedes (listed n) (listed m)) (sym e) ∙ sym c.is-before.ensures ∙ c.if-not-is-before.false in (
-      c.end-of-body-at.ensures ∙ ap (body_end (held b)) c.end-of-name-end.ensures ∙ next_action (held b) b.formed c.loop-k.k c.loop-k.at (omega arith) c.loop-k.invariant.0,
+    let e = c.name_at-found.ensures ∙ ap (name_in b.table.operands.now c.loop-k.at) c.end_of_name-end.ensures ∙ name_here (held b) b.formed c.loop-k.k c.loop-k.at (omega arith) c.loop-k.invariant.0 b.table.numbered m in
+    let p = ap (λ (n : Name). precedes (listed n) (listed m)) (sym e) ∙ sym c.is_before.ensures ∙ c.if-not-is_before.false in (
+      c.end_of_body-at.ensures ∙ ap (body_end (held b)) c.end_of_name-end.ensures ∙ next_action (held b) b.formed c.loop-k.k c.loop-k.at (omega arith) c.loop-k.invariant.0,
       passed_more (held b) b.formed b.table.numbered m c.loop-k.k c.loop-k.invariant.1 p,
     )
 

@@ -3,11 +3,11 @@ use Rattle.book.specs.Held.{held}
 use Rattle.book.proofs.Grouped.{groups_inside, always_rises, always_is}
 use Rattle.book.proofs.book.Book.is_always.Goals as goal
 
-pub slice-bounds-has-atom-end : goal.slice-bounds-has-atom-end
-slice-bounds-has-atom-end c = let b = c.args.self.now in omega (arith, groups_inside (held b) b.formed b.table.numbered)
+pub slice_bounds-has_atom-end : goal.slice_bounds-has_atom-end
+slice_bounds-has_atom-end c = let b = c.args.self.now in omega (arith, groups_inside (held b) b.formed b.table.numbered)
 
-pub has-atom-requires : goal.has-atom-requires
-has-atom-requires c = let b = c.args.self.now in always_rises (held b) b.formed b.table.numbered
+pub has_atom-requires : goal.has_atom-requires
+has_atom-requires c = let b = c.args.self.now in always_rises (held b) b.formed b.table.numbered
 
 pub returns : goal.returns
-returns c = let b = c.args.self.now in c.has-atom.ensures ∙ always_is (held b) b.formed b.table.numbered c.args.atom
+returns c = let b = c.args.self.now in c.has_atom.ensures ∙ always_is (held b) b.formed b.table.numbered c.args.atom

@@ -2,9 +2,9 @@ use Rattle.std.proofs.Common.{refl}
 use Rattle.book.specs.Reads.{ground, objects, book}
 use Rattle.book.proofs.book.Book.new.Goals as goal
 
-pub invariant-of-result : goal.invariant-of-result
+pub invariant_of-result : goal.invariant_of-result
 unfolding book ground objects
-invariant-of-result c = (refl, (refl, tt))
+invariant_of-result c = record { formed = refl; placed = refl }
 
 pub returns : goal.returns
 unfolding book ground objects

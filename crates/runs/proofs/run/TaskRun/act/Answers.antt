@@ -18,10 +18,10 @@ returns g c =
     let ls = literals_where (value (tree_of k) (shown seen)) (effect_of (tree_of k) n) in
     record {
       task = refl;
-      size = c.put-changes-2.ensures.size ∙ c.put-changes.ensures.size;
+      size = c.put_changes-2.ensures.size ∙ c.put_changes.ensures.size;
       performed =
-          step_taken (tree_of k) size c.args.self.now.steps k.atoms s (m.facts c.put-changes-2.new.store) c.args.image.now seen n
-          c.if-steps-ge65535.false k.counted c.in-ok-room-for.ensures c.if-not-fits.ensures c.copy.ensures.image
-          c.if-not-is-applicable.ensures
-          (step_of_two size (m.extent c.put-changes.new.store) ls ls s (m.facts c.put-changes.new.store) _ c.put-changes.ensures.size refl c.put-changes.ensures.set c.put-changes-2.ensures.set);
+          step_taken (tree_of k) size c.args.self.now.steps k.atoms s (m.facts c.put_changes-2.new.store) c.args.image.now seen n
+          c.if-steps-ge65535.false k.counted c.in_ok-room_for.ensures c.if-not-fits.ensures c.copy.ensures.image
+          c.if-not-is_applicable.ensures
+          (step_of_two size (m.extent c.put_changes.new.store) ls ls s (m.facts c.put_changes.new.store) _ c.put_changes.ensures.size refl c.put_changes.ensures.set c.put_changes-2.ensures.set);
     }

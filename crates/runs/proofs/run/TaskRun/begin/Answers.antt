@@ -8,7 +8,7 @@ pub returns : goal.returns
 returns g c =
     let k = c.args.task.now in
     record {
-      size = c.set-out.ensures.size;
-      task = c.set-out.ensures.task;
-      begun = c.set-out.ensures.begun ∙ begins_with_the_facts (tree_of k) (loaded_tasks_are_well_formed (held k) k.formed) (g.S.Store.extent c.args.store.now) (g.S.Store.facts c.args.store.now);
+      size = c.set_out.ensures.size;
+      task = c.set_out.ensures.task;
+      begun = c.set_out.ensures.begun ∙ begins_with_the_facts (tree_of k) (loaded_tasks_are_well_formed (held k) k.formed) (g.S.Store.extent c.args.store.now) (g.S.Store.facts c.args.store.now);
     }
