@@ -10,12 +10,12 @@ use Rattle.book_runs.proofs.judge.+judge_judge_all.Given as goal
 abbrev pub decreases-judge : goal.decreases-judge
 decreases-judge l = 2 * l.levels
 
-abbrev pub decreases-judge-all : goal.decreases-judge-all
-decreases-judge-all l = 2 * l.levels + 1
+abbrev pub decreases-judge_all : goal.decreases-judge_all
+decreases-judge_all l = 2 * l.levels + 1
 
 -- the formulas that are left decide as all of them do, and end where all of them end
-abbrev pub invariant-judge-all-loop-k : goal.invariant-judge-all-loop-k
-invariant-judge-all-loop-k l =
+abbrev pub invariant-judge_all-loop-k : goal.invariant-judge_all-loop-k
+invariant-judge_all-loop-k l =
     let read = ground (table l.table) l.levels in
     let left = many read (l.count - l.k) l.next in
     let whole = many read l.count l.at in

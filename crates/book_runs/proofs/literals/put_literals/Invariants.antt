@@ -13,7 +13,7 @@ abbrev pub invariant-loop-k : goal.invariant-loop-k
 invariant-loop-k g l =
     let m = g.S.Store in
     let count = get_or l.table.operands.now l.at 0 in
-    let left = many (literal (table l.table)) (count - l.-k) l.next in
+    let left = many (literal (table l.table)) (count - l._k) l.next in
     let whole = many (literal (table l.table)) count (l.at + 1) in
     (m.extent l.store ≡ m.extent l.initial.store)
     × (is_good left ≡ true)

@@ -8,5 +8,5 @@ use Rattle.book_runs.proofs.names.after_objects.Given as goal
 -- the objects that are left end where all of them end
 abbrev pub invariant-loop-k : goal.invariant-loop-k
 invariant-loop-k l =
-    let left = objects (table l.table) (4 - l.-k) l.next in
+    let left = objects (table l.table) (4 - l._k) l.next in
     (is_good left ≡ true) × (next_place left ≡ next_place (objects (table l.table) 4 l.at))

@@ -8,11 +8,11 @@ use Rattle.book_runs.proofs.skip.+skip_skip_all.Given as goal
 abbrev pub decreases-skip : goal.decreases-skip
 decreases-skip l = 2 * l.levels
 
-abbrev pub decreases-skip-all : goal.decreases-skip-all
-decreases-skip-all l = 2 * l.levels + 1
+abbrev pub decreases-skip_all : goal.decreases-skip_all
+decreases-skip_all l = 2 * l.levels + 1
 
 -- the formulas that are left end where all of them end
-abbrev pub invariant-skip-all-loop-k : goal.invariant-skip-all-loop-k
-invariant-skip-all-loop-k l =
+abbrev pub invariant-skip_all-loop-k : goal.invariant-skip_all-loop-k
+invariant-skip_all-loop-k l =
     let read = ground (table l.table) l.levels in
-    (is_good (many read (l.count - l.-k) l.next) ≡ true) × (next_place (many read (l.count - l.-k) l.next) ≡ next_place (many read l.count l.at))
+    (is_good (many read (l.count - l._k) l.next) ≡ true) × (next_place (many read (l.count - l._k) l.next) ≡ next_place (many read l.count l.at))

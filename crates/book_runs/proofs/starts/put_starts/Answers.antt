@@ -7,7 +7,7 @@ use Rattle.calls.specs.BookCalls.{facts}
 use Rattle.book_runs.proofs.Beginning.{put_none, put_start, put_no_start}
 use Rattle.book_runs.proofs.Opened.{fact_count}
 use Rattle.book_runs.proofs.starts.put_starts.Goals as goal
-use Rattle.book_runs.proofs.starts.put_starts.Goals.{then-starts-true, else-starts-true}
+use Rattle.book_runs.proofs.starts.put_starts.Goals.{then-starts_true, else-starts_true}
 
 pub loop-fact-init : goal.loop-fact-init
 loop-fact-init g c = (refl, put_none _ (first_facts (tree_of c.args.book.now)) _)
@@ -18,14 +18,14 @@ loop-fact-preserved g c =
     let b = c.args.book.now in
     let k = c.loop-fact.fact in
     let N = M.extent c.args.store.now in
-    elim c.if-starts-true.branch [
-      | then-starts-true w ↦ (
+    elim c.if-starts_true.branch [
+      | then-starts_true w ↦ (
         ap M.extent w.store-is ∙ w.put.ensures.size ∙ c.loop-fact.invariant.0,
-        ap M.facts w.store-is ∙ put_start N (first_facts (tree_of b)) k (M.facts c.args.store.now) (M.extent c.loop-fact.store) (M.facts c.loop-fact.store) _ (sym c.starts-true.ensures ∙ w.if-starts-true.true) c.loop-fact.invariant.0 c.loop-fact.invariant.1 w.put.ensures.set,
+        ap M.facts w.store-is ∙ put_start N (first_facts (tree_of b)) k (M.facts c.args.store.now) (M.extent c.loop-fact.store) (M.facts c.loop-fact.store) _ (sym c.starts_true.ensures ∙ w.if-starts_true.true) c.loop-fact.invariant.0 c.loop-fact.invariant.1 w.put.ensures.set,
       )
-      | else-starts-true w ↦ (
+      | else-starts_true w ↦ (
         ap M.extent w.store-is ∙ c.loop-fact.invariant.0,
-        ap M.facts w.store-is ∙ put_no_start N (first_facts (tree_of b)) k (M.facts c.args.store.now) (M.facts c.loop-fact.store) (sym c.starts-true.ensures ∙ w.if-starts-true.false) c.loop-fact.invariant.1,
+        ap M.facts w.store-is ∙ put_no_start N (first_facts (tree_of b)) k (M.facts c.args.store.now) (M.facts c.loop-fact.store) (sym c.starts_true.ensures ∙ w.if-starts_true.false) c.loop-fact.invariant.1,
       )
     ]
 

@@ -7,17 +7,17 @@ use Rattle.calls.specs.Shown.{shown}
 use Rattle.book_runs.proofs.Effects.{when_stands, when_puts}
 use Rattle.book_runs.proofs.step.put_clause.Goals as goal
 
-pub put-literals-requires : goal.put-literals-requires
-put-literals-requires g c =
+pub put_literals-requires : goal.put_literals-requires
+put_literals-requires g c =
     let T = table c.args.table.now in
-    let w = when_stands T (shown c.args.image.now) c.args.at c.requires.stands (sym c.is-kind.ensures ∙ c.if-is-kind.true) in
+    let w = when_stands T (shown c.args.image.now) c.args.at c.requires.stands (sym c.is_kind.ensures ∙ c.if-is_kind.true) in
     ap (λ (x : ℕ). is_good (literals T x)) c.judge-holds.ensures.end ∙ w.follow
 
-pub returns-then-is-kind : goal.returns-then-is-kind
-returns-then-is-kind g c =
+pub returns-then-is_kind : goal.returns-then-is_kind
+returns-then-is_kind g c =
     let T = table c.args.table.now in
     let M = g.S.Store in
-    let w = when_stands T (shown c.args.image.now) c.args.at c.requires.stands (sym c.is-kind.ensures ∙ c.if-is-kind.true) in
+    let w = when_stands T (shown c.args.image.now) c.args.at c.requires.stands (sym c.is_kind.ensures ∙ c.if-is_kind.true) in
     let p = when_puts T (shown c.args.image.now) c.args.at w (M.extent c.args.store.now) c.args.adds c.judge-holds.result.0 c.judge-holds.result.1 c.put_literals.result (M.facts c.args.store.now) _
     c.judge-holds.ensures.value c.judge-holds.ensures.end c.put_literals.ensures.end c.put_literals.ensures.set in
     record { end = p.0; size = c.put_literals.ensures.size; set = p.1 }

@@ -13,18 +13,18 @@ unreachable-requires c =
     power_there t.table.sizes.objects c.arity.result (omega arith) (omega (arith, f, c.arity.ensures)) c.in-None.ensures
 
 -- the atoms of the next predicate
-own-atoms : (c : goal.In-Some) → c.in-Some.own_val ≡ (tree_of c.args.task.now).objects ^ get_or (tree_of c.args.task.now).arities c.loop-p.p 0
+own-atoms : (c : goal.In-Some) → c.in-Some.own ≡ (tree_of c.args.task.now).objects ^ get_or (tree_of c.args.task.now).arities c.loop-p.p 0
 own-atoms c =
     let t = c.args.task.now in
     let l : c.loop-p.p < t.table.sizes.predicates = omega arith in
     let f = arity_small (held t) t.formed c.loop-p.p l in
     let o = same_objects (held t) t.formed in
     let a = arity_at (held t) t.formed c.loop-p.p l in
-    let e = power_is t.table.sizes.objects c.arity.result c.in-Some.own_val (omega arith) (omega (arith, f, c.arity.ensures)) c.in-Some.ensures in
+    let e = power_is t.table.sizes.objects c.arity.result c.in-Some.own (omega arith) (omega (arith, f, c.arity.ensures)) c.in-Some.ensures in
     e ∙ ap (λ n. t.table.sizes.objects ^ n) (c.arity.ensures ∙ sym a) ∙ ap (λ n. n ^ get_or (tree_of t).arities c.loop-p.p 0) (sym o)
 
 -- the atoms of one more predicate
-more-atoms : (c : goal.In-Some) → c.loop-p.first + c.in-Some.own_val ≡ atoms_of (tree_of c.args.task.now).objects (take (c.loop-p.p + 1) (tree_of c.args.task.now).arities)
+more-atoms : (c : goal.In-Some) → c.loop-p.first + c.in-Some.own ≡ atoms_of (tree_of c.args.task.now).objects (take (c.loop-p.p + 1) (tree_of c.args.task.now).arities)
 more-atoms c =
     let t = c.args.task.now in
     let m = arities_length (held t) t.formed in

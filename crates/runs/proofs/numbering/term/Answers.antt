@@ -11,7 +11,7 @@ use Rattle.runs.proofs.Sheets.{within_at}
 use Rattle.runs.proofs.numbering.term.Goals as goal
 
 -- what is no object is a variable
-is-variable : (c : goal.After-result·1) (x : Term) → TermAt (held c.args.task.now) c.args.depth c.args.at x → get_or c.args.task.now.table.kinds.now c.args.at 0 ≡ 11
+is-variable : (c : goal.After-result-1) (x : Term) → TermAt (held c.args.task.now) c.args.depth c.args.at x → get_or c.args.task.now.table.kinds.now c.args.at 0 ≡ 11
 is-variable c x s = ⊎_elim (λ e. absurd (other_code _ Object c.in_default.not-Object (c.kind_at.ensures ∙ e))) (λ e. e) (term_kind s)
 
 pub returns-in_default : goal.returns-in_default

@@ -38,9 +38,9 @@ skip_consequent-returns-in_default t c v d j s =
     let x = at_outcome s (λ q. other_code c.kind_at.result And c.in_default.not-And (c.kind_at.ensures ∙ q)) in
     c.skip_change.ensures v x.0 j x.2
 
-pub skip-consequents-skip-consequent-next-requires :
+pub skip_consequents-skip_consequent-next-requires :
     goal.skip_consequents-skip_consequent-next-requires
-skip-consequents-skip-consequent-next-requires t c =
+skip_consequents-skip_consequent-next-requires t c =
     let p = c.requires in
     let m = first_consequent p.3 c.if-left-eq0.false in
     (omega arith, (p.0, m.0, m.1, m.4))

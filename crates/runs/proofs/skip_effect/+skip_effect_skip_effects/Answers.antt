@@ -34,15 +34,15 @@ skip_effect-skip_effect-requires t c =
 pub skip_effect-overflow_add-at-in-When : goal.skip_effect-overflow_add-at-in-When
 skip_effect-overflow_add-at-in-When t c = omega (arith, effect_begins c.requires.3, c.args.task.now.table.entries)
 
-pub skip_effect-skip_consequent-requires : goal.skip_effect-skip_consequent-requires
-skip_effect-skip_consequent-requires t c =
+pub skip_effect-skip-consequent-requires : goal.skip_effect-skip-consequent-requires
+skip_effect-skip-consequent-requires t c =
     let p = c.requires in
     let x = at_when p.3 (sym c.in-When.ensures) in
     (p.0, x.0, x.2, x.4)
 
-pub skip-effect-skip-consequent-requires-in-When :
-    goal.skip_effect-skip_consequent-requires-in-When
-skip-effect-skip-consequent-requires-in-When t c =
+pub skip_effect-skip_consequent-requires :
+    goal.skip_effect-skip_consequent-requires
+skip_effect-skip_consequent-requires t c =
     let p = c.requires in
     let x = at_when p.3 (sym c.in-When.ensures) in
     let e = c.skip-consequent.ensures p.0 x.0 x.2 x.4 in
@@ -69,7 +69,7 @@ pub skip_effect-returns-in-When : goal.skip_effect-returns-in-When
 skip_effect-returns-in-When t c v e j s =
     let x = at_when s (sym c.in-When.ensures) in
     let q = c.skip-consequent.ensures v x.0 x.2 x.4 in
-    c.skip_consequent-in-When.ensures v x.1 j (rw q x.5)
+    c.skip_consequent.ensures v x.1 j (rw q x.5)
 
 pub skip_effect-returns-in_default : goal.skip_effect-returns-in_default
 skip_effect-returns-in_default t c v e j s =

@@ -48,9 +48,9 @@ walk_consequent-returns-in_default g t c d j s =
       e.1,
     )
 
-pub walk-consequents-walk-consequent-next-requires :
+pub walk_consequents-walk_consequent-next-requires :
     goal.walk_consequents-walk_consequent-next-requires
-walk-consequents-walk-consequent-next-requires g t c κs within =
+walk_consequents-walk_consequent-next-requires g t c κs within =
     let p = c.requires.stand in
     let m = first_consequent p.2 c.if-left-eq0.false in
     (omega arith, (within, (c.requires.room, (c.requires.objects, (m.0, m.1, m.4)))))

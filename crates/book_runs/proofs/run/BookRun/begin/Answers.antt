@@ -6,7 +6,7 @@ use Rattle.book_runs.proofs.run.BookRun.begin.Goals as goal
 pub returns : goal.returns
 returns g c =
     record {
-      size = c.set-out.ensures.size;
-      book = c.set-out.ensures.book;
-      begun = c.set-out.ensures.begun ∙ begins_with_the_starts (tree_of c.args.book.now) (g.S.Store.extent c.args.store.now) (g.S.Store.facts c.args.store.now);
+      size = c.set_out.ensures.size;
+      book = c.set_out.ensures.book;
+      begun = c.set_out.ensures.begun ∙ begins_with_the_starts (tree_of c.args.book.now) (g.S.Store.extent c.args.store.now) (g.S.Store.facts c.args.store.now);
     }
