@@ -80,7 +80,7 @@ judge-returns-in-Not t c =
 pub judge-returns-in-And : goal.judge-returns-in-And
 judge-returns-in-And t c =
     let w = at_and (table c.args.table.now) c.args.levels c.args.at c.requires.stands (shown c.args.image.now) c.in-And.ensures in
-    record { value = c.judge-all.ensures.value ∙ w.1; end = c.judge-all.ensures.end ∙ w.2 }
+    record { value = c.judge_all.ensures.value ∙ w.1; end = c.judge_all.ensures.end ∙ w.2 }
 
 pub judge-returns-in-Or : goal.judge-returns-in-Or
 judge-returns-in-Or t c =
