@@ -12,8 +12,8 @@ loop-i-init g c =
     let m = g.S.Store in
     (tt, refl, played_none (task_machine (tree_of c.args.task.now) (m.extent c.args.store.now)) (unbegun (m.facts c.args.store.now) c.args.image.now) c.args.calls.now c.args.answers.now)
 
-pub call-any-answer-requires : goal.call-any-answer-requires
-call-any-answer-requires g c = c.loop-i.invariant.0
+pub call_any-answer-requires : goal.call_any-answer-requires
+call_any-answer-requires g c = c.loop-i.invariant.0
 
 pub loop-i-preserved : goal.loop-i-preserved
 loop-i-preserved g c =
@@ -21,9 +21,9 @@ loop-i-preserved g c =
     let t = tree_of c.args.task.now in
     let size = m.extent c.args.store.now in
     let call = get_or c.args.calls.now c.loop-i.i Begin in
-    let e = c.call-any-answer.ensures.turn ∙ ap (λ (n : ℕ). turn_from (task_machine t n) (steps_of c.loop-i.run) (m.facts c.loop-i.store) c.loop-i.image call) c.loop-i.invariant.1 in (
-      c.call-any-answer.ensures.task,
-      c.call-any-answer.ensures.size ∙ c.loop-i.invariant.1,
+    let e = c.call_any-answer.ensures.turn ∙ ap (λ (n : ℕ). turn_from (task_machine t n) (steps_of c.loop-i.run) (m.facts c.loop-i.store) c.loop-i.image call) c.loop-i.invariant.1 in (
+      c.call_any-answer.ensures.task,
+      c.call_any-answer.ensures.size ∙ c.loop-i.invariant.1,
       played_more (task_machine t size) (unbegun (m.facts c.args.store.now) c.args.image.now) c.args.calls.now c.args.answers.now
           c.loop-i.i (steps_of c.loop-i.run) (m.facts c.loop-i.store) c.loop-i.image c.loop-i.answers _
           c.loop-i-test.true (omega arith) c.loop-i.invariant.2 e,
