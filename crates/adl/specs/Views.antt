@@ -7,7 +7,7 @@ use Rattle.table.specs.Kinds.{code_of}
 use Rattle.table.specs.Reading.{Entry, entry, Out}
 use Rattle.adl.specs.Tables as spec
 use Rattle.adl.specs.Loads.{given}
-use Rattle.adl.specs.declared.table.TaskTable.{TaskTable}
+use Rattle.adl.specs.declared.task_table.TaskTable.{TaskTable}
 use Rattle.adl.specs.declared.around.Around.{Around}
 use Rattle.adl.specs.declared.head.Head.{Head}
 

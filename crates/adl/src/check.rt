@@ -6,7 +6,7 @@ ghost use Rattle.adl.specs.Views.{table as table_in, around as around_in, answer
 
 use crate::around::Around;
 use crate::head::{Head, deeper, head_at, refuse};
-use crate::table::TaskTable;
+use crate::task_table::TaskTable;
 use fault::{Cause, Fault};
 use table::{Kind, Place};
 

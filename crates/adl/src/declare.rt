@@ -8,7 +8,7 @@ ghost use Rattle.adl.specs.Ends.{predicates_end, operator_end, operators_end};
 
 use crate::check::{check_effect, check_formula, check_terms};
 use crate::head::{head_at, outermost, refuse};
-use crate::table::TaskTable;
+use crate::task_table::TaskTable;
 use fault::{Cause, Fault};
 use table::{Place, power};
 

@@ -7,7 +7,7 @@ ghost use Rattle.fault.specs.declared.Layer.TheVariants.{Task};
 ghost use Rattle.adl.specs.Views.{table as table_in, around as around_in, all_coded, heading};
 
 use crate::around::Around;
-use crate::table::TaskTable;
+use crate::task_table::TaskTable;
 use fault::{Cause, Fault, Layer};
 use table::{Kind, Place, permits};
 

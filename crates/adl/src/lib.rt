@@ -4,10 +4,10 @@ mod check;
 mod declare;
 mod head;
 pub mod sizes;
-pub mod table;
+pub mod task_table;
 pub mod task;
 
 pub use check::arity;
 pub use sizes::Sizes;
-pub use table::TaskTable;
+pub use task_table::TaskTable;
 pub use task::Task;

@@ -5,7 +5,7 @@ ghost use Rattle.adl.specs.Reads.{goal_place, operator_places, effect_places};
 ghost use Rattle.adl.specs.Loads.{accepted, task_of};
 ghost use Rattle.adl.specs.Views.{table as table_in};
 
-use crate::table::TaskTable;
+use crate::task_table::TaskTable;
 
 #[derive(Clone, Copy)]
 pub struct Task<'a> {

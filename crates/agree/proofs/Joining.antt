@@ -5,12 +5,12 @@ use Rattle.model.specs.Meaning.{State}
 use Rattle.model.specs.Trees as tree
 use Rattle.model.specs.Books as books
 use Rattle.model.specs.Forming.{WellFormed}
-use Rattle.calls.specs.Machines.{Machine, Turn, unbegun, turn, after, answers}
-use Rattle.calls.specs.TaskCalls.{task_machine}
-use Rattle.calls.specs.BookCalls.{book_machine}
-use Rattle.calls.specs.declared.calls.Answer.{Answer}
-use Rattle.calls.specs.declared.calls.Answer.TheVariants.{NoRun}
-use Rattle.calls.specs.declared.calls.Call.{Call}
+use Rattle.protocol.specs.Machines.{Machine, Turn, unbegun, turn, after, answers}
+use Rattle.protocol.specs.TaskCalls.{task_machine}
+use Rattle.protocol.specs.BookCalls.{book_machine}
+use Rattle.protocol.specs.declared.calls.Answer.{Answer}
+use Rattle.protocol.specs.declared.calls.Answer.TheVariants.{NoRun}
+use Rattle.protocol.specs.declared.calls.Call.{Call}
 use Rattle.agreement.specs.Agreement.{Alike, steps_of, Room, BeginsFirst, EachCallAgrees}
 use Rattle.agreement.proofs.Agreement.{task_and_book_agree}
 use Rattle.agree.specs.Sides.{AnswersAgree}

@@ -7,10 +7,10 @@ use Rattle.adl.specs.Held as loaded
 use Rattle.adl.specs.declared.task.Task.{Task}
 use Rattle.book.specs.Held as opened
 use Rattle.book.specs.declared.book.Book.{Book}
-use Rattle.calls.specs.Machines.{Machine, Turn, after, answers}
-use Rattle.calls.specs.declared.calls.Answer.{Answer}
-use Rattle.calls.specs.declared.calls.Answer.TheVariants.{NoRun}
-use Rattle.calls.specs.declared.calls.Call.{Call}
+use Rattle.protocol.specs.Machines.{Machine, Turn, after, answers}
+use Rattle.protocol.specs.declared.calls.Answer.{Answer}
+use Rattle.protocol.specs.declared.calls.Answer.TheVariants.{NoRun}
+use Rattle.protocol.specs.declared.calls.Call.{Call}
 use Rattle.agreement.specs.Agreement.{steps_of, Alike}
 
 -- the book was made from the task: the record holds the book of the task that is loaded

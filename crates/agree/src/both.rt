@@ -2,16 +2,16 @@
 ghost use Rattle.std.specs.Prelude.{◌≡◌, ℕ, ◌<◌, ◌≤◌, true, false, ◌⊎◌, length};
 ghost use Rattle.adl.specs.Held.{tree_of as task_of};
 ghost use Rattle.book.specs.Held.{tree_of as book_of};
-ghost use Rattle.calls.specs.Machines.{unbegun};
-ghost use Rattle.calls.specs.TaskCalls.{task_machine};
-ghost use Rattle.calls.specs.BookCalls.{book_machine};
+ghost use Rattle.protocol.specs.Machines.{unbegun};
+ghost use Rattle.protocol.specs.TaskCalls.{task_machine};
+ghost use Rattle.protocol.specs.BookCalls.{book_machine};
 ghost use Rattle.agreement.specs.Agreement.{Room, BeginsFirst, EachCallAgrees};
 ghost use Rattle.agree.specs.Sides.{MadeFrom, Played, AnswersAgree};
 
 use adl::Task;
 use book::Book;
-use calls::{Answer, Call};
-use play::{play_book, play_task};
+use protocol::{Answer, Call};
+use play::{play_book, play};
 use store::Store;
 
 // Plays the calls one after the other on a task and on a book, each over its own store and image, and writes what each answers;
@@ -46,7 +46,7 @@ pub fn play_both<S: Store, R: Store>(
     if task_answers.len() < calls.len() || book_answers.len() < calls.len() {
         return false;
     }
-    let on_task = play_task(task, task_store, task_image, calls, task_answers);
+    let on_task = play(task, task_store, task_image, calls, task_answers);
     let on_book = play_book(book, book_store, book_image, calls, book_answers);
     on_task && on_book
 }

@@ -15,12 +15,12 @@ use Rattle.model.specs.Runs as model
 use Rattle.model.specs.Theorems as claim
 use Rattle.model.proofs.Values.{either, clash}
 use Rattle.model.proofs.Agreement.{runs_agree}
-use Rattle.calls.specs.Machines.{Judged, unbegun}
-use Rattle.calls.specs.TaskCalls.{task_machine}
-use Rattle.calls.specs.BookCalls.{facts, book_machine}
-use Rattle.calls.specs.declared.calls.Answer.TheVariants.{Told, Refused}
-use Rattle.calls.specs.declared.calls.Call.{Call}
-use Rattle.calls.specs.declared.calls.Call.TheVariants.{Begin, Perform, Holds, Goal, End}
+use Rattle.protocol.specs.Machines.{Judged, unbegun}
+use Rattle.protocol.specs.TaskCalls.{task_machine}
+use Rattle.protocol.specs.BookCalls.{facts, book_machine}
+use Rattle.protocol.specs.declared.calls.Answer.TheVariants.{Told, Refused}
+use Rattle.protocol.specs.declared.calls.Call.{Call}
+use Rattle.protocol.specs.declared.calls.Call.TheVariants.{Begin, Perform, Holds, Goal, End}
 use Rattle.agreement.specs.Agreement.{call_of, steps_of, is_done, in_book, truth_of, goal_after, Alike, SameTruth, TruthAlike, Agrees, TaskAndBookAgree}
 use Rattle.agreement.proofs.Tied.{answer_as, turn_stands, after_stands, passes, passes_both, task_tied, book_tied}
 

@@ -13,14 +13,14 @@ use Rattle.model.specs.Settling.{ground_value}
 use Rattle.model.specs.Books.{Action, Book, find, truth}
 use Rattle.model.specs.Runs as model
 use Rattle.store.specs.Sets.{pictured}
-use Rattle.calls.specs.Names.{name_of}
-use Rattle.calls.specs.Machines.{refused, Begun, Judged, Performed, Machine, Turn, told, after_begin, after_perform, turn_from, turn, after}
-use Rattle.calls.specs.TaskCalls.{task_machine}
-use Rattle.calls.specs.BookCalls.{facts, book_act, book_machine}
-use Rattle.calls.specs.declared.calls.Answer.{Answer}
-use Rattle.calls.specs.declared.calls.Answer.TheVariants.{NoRun, Done, Told, Count, Refused}
-use Rattle.calls.specs.declared.calls.Call.{Call}
-use Rattle.calls.specs.declared.calls.Call.TheVariants.{Begin, Perform, Holds, Goal, End}
+use Rattle.protocol.specs.Names.{name_of}
+use Rattle.protocol.specs.Machines.{refused, Begun, Judged, Performed, Machine, Turn, told, after_begin, after_perform, turn_from, turn, after}
+use Rattle.protocol.specs.TaskCalls.{task_machine}
+use Rattle.protocol.specs.BookCalls.{facts, book_act, book_machine}
+use Rattle.protocol.specs.declared.calls.Answer.{Answer}
+use Rattle.protocol.specs.declared.calls.Answer.TheVariants.{NoRun, Done, Told, Count, Refused}
+use Rattle.protocol.specs.declared.calls.Call.{Call}
+use Rattle.protocol.specs.declared.calls.Call.TheVariants.{Begin, Perform, Holds, Goal, End}
 use Rattle.agreement.specs.Agreement.{call_of}
 
 -- the model's steps, answers and turns, as the calls have them

@@ -10,14 +10,14 @@ use Rattle.model.specs.Meaning.{State, value}
 use Rattle.model.specs.Books.{Start, book}
 use Rattle.model.specs.Runs as model
 use Rattle.model.specs.Theorems.{leaves, takes, counted, counted_after, in_order}
-use Rattle.calls.specs.Names.{name_of}
-use Rattle.calls.specs.Machines.{refused, Turn, unbegun, turn, after}
-use Rattle.calls.specs.TaskCalls.{task_holds, task_goal, task_machine}
-use Rattle.calls.specs.BookCalls.{facts, book_holds, book_goal, book_machine}
-use Rattle.calls.specs.declared.calls.Answer.{Answer}
-use Rattle.calls.specs.declared.calls.Answer.TheVariants.{NoRun, Done, Told, Count, Refused}
-use Rattle.calls.specs.declared.calls.Call.{Call}
-use Rattle.calls.specs.declared.calls.Call.TheVariants.{Begin, Perform, Holds, Goal, End}
+use Rattle.protocol.specs.Names.{name_of}
+use Rattle.protocol.specs.Machines.{refused, Turn, unbegun, turn, after}
+use Rattle.protocol.specs.TaskCalls.{task_holds, task_goal, task_machine}
+use Rattle.protocol.specs.BookCalls.{facts, book_holds, book_goal, book_machine}
+use Rattle.protocol.specs.declared.calls.Answer.{Answer}
+use Rattle.protocol.specs.declared.calls.Answer.TheVariants.{NoRun, Done, Told, Count, Refused}
+use Rattle.protocol.specs.declared.calls.Call.{Call}
+use Rattle.protocol.specs.declared.calls.Call.TheVariants.{Begin, Perform, Holds, Goal, End}
 
 -- a call as the model has it
 abbrev pub call_of : Call → model.Call

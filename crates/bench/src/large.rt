@@ -1,6 +1,6 @@
 // A task with 32 objects and one predicate of three arguments: a step takes a triple and puts it back turned round.
 use adl::Sizes;
-use calls::Name;
+use protocol::Name;
 
 pub const SIZES: Sizes = Sizes {
     objects: 32,

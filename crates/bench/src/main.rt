@@ -2,7 +2,7 @@
 mod large;
 
 use adl::{Sizes, Task};
-use calls::Name;
+use protocol::Name;
 use middleware::{LOCK, MUTEX, PUBLISHER, SIZES, TABLE, UNLOCK};
 use runs::TaskRun;
 use std::rt::{Clock, Env};

@@ -7,7 +7,7 @@ use Rattle.table.specs.Reading.{Entry, entry, Out}
 use Rattle.table.specs.Answers as read
 use Rattle.book.specs.Tables as spec
 use Rattle.book.specs.Opens.{given}
-use Rattle.book.specs.declared.table.BookTable.{BookTable}
+use Rattle.book.specs.declared.book_table.BookTable.{BookTable}
 use Rattle.book.specs.declared.head.Head.{Head}
 
 -- the table of a record

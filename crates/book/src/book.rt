@@ -4,7 +4,7 @@ ghost use Rattle.book.specs.Reads.{actions_place};
 ghost use Rattle.book.specs.Opens.{accepted};
 ghost use Rattle.book.specs.Views.{table as table_in};
 
-use crate::table::BookTable;
+use crate::book_table::BookTable;
 
 #[derive(Clone, Copy)]
 pub struct Book<'a> {

@@ -4,7 +4,7 @@ ghost use Rattle.book.specs.Reads.{ground};
 ghost use Rattle.book.specs.Views.{table as table_in, answer};
 
 use crate::head::head_at;
-use crate::table::BookTable;
+use crate::book_table::BookTable;
 use fault::Fault;
 use table::{Kind, Place};
 

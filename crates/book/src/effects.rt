@@ -5,7 +5,7 @@ ghost use Rattle.book.specs.Views.{table as table_in, answer, coded};
 
 use crate::check::check_ground;
 use crate::head::{Head, head_at, refuse};
-use crate::table::BookTable;
+use crate::book_table::BookTable;
 use fault::{Cause, Fault};
 use table::{Kind, Place};
 

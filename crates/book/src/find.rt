@@ -1,6 +1,6 @@
 // Walking over the actions of a book.
 ghost use Rattle.std.specs.Prelude.{◌≡◌, ◌+◌, ◌<◌, ◌≤◌};
-ghost use Rattle.calls.specs.Names.{name_of};
+ghost use Rattle.protocol.specs.Names.{name_of};
 ghost use Rattle.book.specs.Reads.{precedes as comes_before, listed};
 ghost use Rattle.book.specs.Named.{name_in, SomeAction, name_end, SomeBody, body_end};
 ghost use Rattle.book.specs.Views.{table as table_in};
@@ -8,8 +8,8 @@ ghost use Rattle.book.specs.Views.{table as table_in};
 use crate::check::check_ground;
 use crate::effects::check_effect;
 use crate::names::{check_objects, precedes};
-use crate::table::BookTable;
-use calls::Name;
+use crate::book_table::BookTable;
+use protocol::Name;
 
 // Whether the name `a` comes before the name `b`.
 pub(crate) fn is_before(a: Name, b: Name) -> bool

@@ -6,7 +6,7 @@ ghost use Rattle.book.specs.Groups.{Rises, rising_entry};
 ghost use Rattle.book.specs.Views.{table as table_in, answer, all_coded, heading};
 
 use crate::head::{Head, head_at, refuse};
-use crate::table::BookTable;
+use crate::book_table::BookTable;
 use fault::{Cause, Fault};
 use table::Place;
 

@@ -6,7 +6,7 @@ ghost use Rattle.table.specs.Reading.{entry};
 ghost use Rattle.book.specs.Tables.{in_range, head};
 ghost use Rattle.book.specs.Views.{table as table_in, all_coded, heading};
 
-use crate::table::BookTable;
+use crate::book_table::BookTable;
 use fault::{Cause, Fault, Layer};
 use table::{Kind, Place, permits};
 

@@ -8,8 +8,8 @@ pub mod head;
 mod names;
 mod opening;
 pub mod sizes;
-pub mod table;
+pub mod book_table;
 
 pub use book::Book;
 pub use sizes::Sizes;
-pub use table::BookTable;
+pub use book_table::BookTable;

@@ -9,7 +9,7 @@ ghost use Rattle.book.specs.Views.{table as table_in, answer};
 use crate::check::check_ground;
 use crate::effects::check_effect;
 use crate::head::{head_at, refuse};
-use crate::table::BookTable;
+use crate::book_table::BookTable;
 use fault::{Cause, Fault};
 use table::{Kind, Place};
 

@@ -12,7 +12,7 @@ use crate::groups::{check_always, check_relevant};
 use crate::head::refuse;
 use crate::names::check_actions;
 use crate::sizes::Sizes;
-use crate::table::BookTable;
+use crate::book_table::BookTable;
 use fault::{Cause, Fault};
 
 // The sizes, first to last.

@@ -10,10 +10,10 @@ use Rattle.model.specs.Books.{Start, Book, first_facts}
 use Rattle.model.proofs.Members.{has_in, keep_out, below_out}
 use Rattle.model.proofs.Following.{has_kept}
 use Rattle.store.specs.Sets.{none, after_put}
-use Rattle.calls.specs.Steps.{put_numbers}
-use Rattle.calls.proofs.Puts.{put_numbers_has}
-use Rattle.calls.proofs.Tests.{unless_passed}
-use Rattle.calls.specs.BookCalls.{facts, book_begin}
+use Rattle.protocol.specs.Steps.{put_numbers}
+use Rattle.protocol.proofs.Puts.{put_numbers_has}
+use Rattle.protocol.proofs.Tests.{unless_passed}
+use Rattle.protocol.specs.BookCalls.{facts, book_begin}
 use Rattle.book_runs.specs.Runs.{begin_by_puts}
 
 -- one number more

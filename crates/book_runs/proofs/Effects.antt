@@ -11,8 +11,8 @@ use Rattle.model.specs.Books.{Clause, plain, when, clause_literals, action_liter
 use Rattle.book.specs.Tables.{Table, entry_at, head}
 use Rattle.book.specs.Reads.{ground, literal_by, literal, literals, clause_by, clause, effect}
 use Rattle.store.specs.Sets.{after_put}
-use Rattle.calls.specs.Steps.{put_literals, put_step}
-use Rattle.calls.proofs.Puts.{put_append}
+use Rattle.protocol.specs.Steps.{put_literals, put_step}
+use Rattle.protocol.proofs.Puts.{put_append}
 use Rattle.book_runs.specs.Standing.{value_in, items_in, literals_in, literal_at, literal_end}
 use Rattle.book_runs.proofs.Reading.{not_good, passed, Headed, headed, goes, first_good, First}
 

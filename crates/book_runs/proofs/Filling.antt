@@ -8,11 +8,11 @@ use Rattle.model.specs.Trees.{Name}
 use Rattle.model.specs.Meaning.{State}
 use Rattle.model.specs.Books.{Action, Book, find}
 use Rattle.store.specs.Sets.{pictured, after_copy, copied}
-use Rattle.calls.specs.Shown.{shown}
-use Rattle.calls.specs.Steps.{put_step}
-use Rattle.calls.specs.Machines.{refused, Performed}
-use Rattle.calls.proofs.Images.{had_room}
-use Rattle.calls.specs.BookCalls.{facts}
+use Rattle.protocol.specs.Shown.{shown}
+use Rattle.protocol.specs.Steps.{put_step}
+use Rattle.protocol.specs.Machines.{refused, Performed}
+use Rattle.protocol.proofs.Images.{had_room}
+use Rattle.protocol.specs.BookCalls.{facts}
 use Rattle.book_runs.specs.Runs.{is_taken, literals_taken, act_by_puts, perform_by_puts}
 
 module _ (size n : ℕ) (s : State) (im seen : List ℕ) (room : Ok tt ≡ copied size (length im) n) (filled : seen ≡ after_copy size n s im) where

@@ -8,9 +8,9 @@ use Rattle.model.specs.Trees.{Name}
 use Rattle.model.specs.Meaning.{State}
 use Rattle.model.specs.Books.{Action, Start, Book, same_name, find, truth}
 use Rattle.store.specs.Sets.{answered}
-use Rattle.calls.specs.Machines.{refused}
+use Rattle.protocol.specs.Machines.{refused}
 use Rattle.book.specs.Finds.{number_from, fact_of}
-use Rattle.calls.specs.BookCalls.{facts, book_holds}
+use Rattle.protocol.specs.BookCalls.{facts, book_holds}
 
 -- Actions.
 

@@ -11,7 +11,7 @@ use Rattle.book.specs.Held.{held, tree_of}
 use Rattle.book.specs.declared.book.Book.{Book}
 use Rattle.book.proofs.Standing.{Opened, opened}
 use Rattle.book.proofs.WellFormed.{opened_books_are_well_formed}
-use Rattle.calls.specs.BookCalls.{facts}
+use Rattle.protocol.specs.BookCalls.{facts}
 use Rattle.book_runs.proofs.Standing.{begins}
 
 module _ (b : Book) where

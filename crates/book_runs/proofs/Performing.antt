@@ -11,13 +11,13 @@ use Rattle.model.specs.Books.{Clause, plain, when, Action, Book, clause_literals
 use Rattle.model.specs.Opening.{KnownGround, KnownGrounds, KnownLiterals, KnownClause, KnownAction, WellFormedBook}
 use Rattle.model.proofs.Members.{in_append, each_in}
 use Rattle.store.specs.Sets.{pictured}
-use Rattle.calls.specs.Shown.{shown}
-use Rattle.calls.specs.Steps.{put_step}
-use Rattle.calls.specs.Machines.{refused, Performed}
-use Rattle.calls.proofs.Images.{image_shows}
-use Rattle.calls.proofs.Puts.{put_step_is}
-use Rattle.calls.proofs.Tests.{if_passed, unless_passed}
-use Rattle.calls.specs.BookCalls.{facts, book_goal, book_act, book_perform}
+use Rattle.protocol.specs.Shown.{shown}
+use Rattle.protocol.specs.Steps.{put_step}
+use Rattle.protocol.specs.Machines.{refused, Performed}
+use Rattle.protocol.proofs.Images.{image_shows}
+use Rattle.protocol.proofs.Puts.{put_step_is}
+use Rattle.protocol.proofs.Tests.{if_passed, unless_passed}
+use Rattle.protocol.specs.BookCalls.{facts, book_goal, book_act, book_perform}
 use Rattle.book_runs.specs.Runs.{goal_by_image, is_taken, literals_taken, act_by_puts, perform_by_puts}
 
 -- states that agree on the first r facts judge formulas on those facts alike

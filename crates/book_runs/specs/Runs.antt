@@ -8,10 +8,10 @@ use Rattle.model.specs.Settling.{ground_value}
 use Rattle.model.specs.Books.{Action, Book, find, action_literals, first_facts}
 use Rattle.model.specs.Runs.{limit}
 use Rattle.store.specs.Sets.{none as empty_set, pictured}
-use Rattle.calls.specs.Shown.{shown}
-use Rattle.calls.specs.Steps.{put_step, put_numbers}
-use Rattle.calls.specs.Machines.{refused, Begun, Judged, Performed}
-use Rattle.calls.specs.BookCalls.{facts}
+use Rattle.protocol.specs.Shown.{shown}
+use Rattle.protocol.specs.Steps.{put_step, put_numbers}
+use Rattle.protocol.specs.Machines.{refused, Begun, Judged, Performed}
+use Rattle.protocol.specs.BookCalls.{facts}
 
 -- `begin` empties the store and puts the facts that start true
 abbrev pub begin_by_puts : Book → ℕ → State → Begun

@@ -2,15 +2,15 @@
 ghost use Rattle.std.specs.Prelude.{◌≡◌, ℕ, ◌+◌, ◌<◌, ◌≤◌, length, if◌then◌else◌};
 ghost use Rattle.model.specs.Books.{find};
 ghost use Rattle.book.specs.Held.{tree_of};
-ghost use Rattle.calls.specs.Names.{name_of};
-ghost use Rattle.calls.specs.Shown.{shown};
-ghost use Rattle.calls.specs.Steps.{put_step};
+ghost use Rattle.protocol.specs.Names.{name_of};
+ghost use Rattle.protocol.specs.Shown.{shown};
+ghost use Rattle.protocol.specs.Steps.{put_step};
 ghost use Rattle.book_runs.specs.Runs.{is_taken, literals_taken};
 
 use crate::names::after_objects;
 use crate::step::attempt;
 use book::Book;
-use calls::Name;
+use protocol::Name;
 use store::Store;
 
 // Judges the precondition of the action with this name in the image and, if it is true, takes the step; tells whether.

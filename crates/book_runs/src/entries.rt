@@ -1,7 +1,7 @@
 // Single entries of an opened book, and what an image shows.
 ghost use Rattle.std.specs.Prelude.{◌≡◌, ℕ, ◌+◌, ◌<◌, ◌≤◌, length, ◌==◌, slice_index};
 ghost use Rattle.table.specs.Kinds.{code_of};
-ghost use Rattle.calls.specs.Shown.{shown};
+ghost use Rattle.protocol.specs.Shown.{shown};
 
 use book::BookTable;
 use table::Kind;

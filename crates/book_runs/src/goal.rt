@@ -2,7 +2,7 @@
 ghost use Rattle.std.specs.Prelude.{◌≡◌, ℕ, ◌+◌, ◌<◌, ◌≤◌, length};
 ghost use Rattle.model.specs.Settling.{ground_value};
 ghost use Rattle.book.specs.Held.{tree_of};
-ghost use Rattle.calls.specs.Shown.{shown};
+ghost use Rattle.protocol.specs.Shown.{shown};
 
 use crate::judge::judge;
 use book::Book;

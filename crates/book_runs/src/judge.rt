@@ -4,7 +4,7 @@ ghost use Rattle.table.specs.Answers.{is_good};
 ghost use Rattle.table.specs.Reading.{many, next_place};
 ghost use Rattle.book.specs.Reads.{ground};
 ghost use Rattle.book.specs.Views.{table as table_in};
-ghost use Rattle.calls.specs.Shown.{shown};
+ghost use Rattle.protocol.specs.Shown.{shown};
 ghost use Rattle.book_runs.specs.Standing.{value_in, values_in};
 
 use crate::entries::{kind_at, shows};

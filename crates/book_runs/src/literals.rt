@@ -4,7 +4,7 @@ ghost use Rattle.table.specs.Answers.{is_good};
 ghost use Rattle.table.specs.Reading.{next_place};
 ghost use Rattle.book.specs.Reads.{literals};
 ghost use Rattle.book.specs.Views.{table as table_in};
-ghost use Rattle.calls.specs.Steps.{put_literals};
+ghost use Rattle.protocol.specs.Steps.{put_literals};
 ghost use Rattle.book_runs.specs.Standing.{items_in, literal_at, literal_end};
 
 use crate::entries::is_kind;

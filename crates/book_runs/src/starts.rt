@@ -3,8 +3,8 @@ ghost use Rattle.std.specs.Prelude.{◌≡◌, ℕ, ◌<◌, ◌≤◌};
 ghost use Rattle.model.specs.Books.{first_facts};
 ghost use Rattle.model.specs.Lists.{below, keep};
 ghost use Rattle.book.specs.Held.{tree_of};
-ghost use Rattle.calls.specs.Steps.{put_numbers};
-ghost use Rattle.calls.specs.BookCalls.{facts};
+ghost use Rattle.protocol.specs.Steps.{put_numbers};
+ghost use Rattle.protocol.specs.BookCalls.{facts};
 
 use crate::entries::is_kind;
 use book::Book;

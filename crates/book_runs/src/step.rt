@@ -5,8 +5,8 @@ ghost use Rattle.table.specs.Reading.{next_place};
 ghost use Rattle.model.specs.Books.{action_literals};
 ghost use Rattle.book.specs.Reads.{ground, clause, effect};
 ghost use Rattle.book.specs.Views.{table as table_in};
-ghost use Rattle.calls.specs.Shown.{shown};
-ghost use Rattle.calls.specs.Steps.{put_literals, put_step};
+ghost use Rattle.protocol.specs.Shown.{shown};
+ghost use Rattle.protocol.specs.Steps.{put_literals, put_step};
 ghost use Rattle.book_runs.specs.Standing.{value_in, items_in, literals_in};
 
 use crate::entries::is_kind;

@@ -1,6 +1,6 @@
 // Playing lists of calls, one call after the other over one store and one image.
-mod book;
-mod task;
+mod on_book;
+mod on_task;
 
-pub use book::play_book;
-pub use task::play_task;
+pub use on_book::play_book;
+pub use on_task::play;

@@ -7,9 +7,9 @@ use Rattle.model.specs.Forming.{Each, Within, KnownFact, WellFormed}
 use Rattle.model.specs.Meaning.{State}
 use Rattle.model.proofs.Numbers.{number_known}
 use Rattle.store.specs.Sets.{none}
-use Rattle.calls.proofs.Puts.{put_numbers_has, has_map}
-use Rattle.calls.proofs.Tests.{unless_passed}
-use Rattle.calls.specs.TaskCalls.{task_begin}
+use Rattle.protocol.proofs.Puts.{put_numbers_has, has_map}
+use Rattle.protocol.proofs.Tests.{unless_passed}
+use Rattle.protocol.specs.TaskCalls.{task_begin}
 use Rattle.runs.specs.Runs.{begin_by_puts}
 
 module _ (t : Task) where

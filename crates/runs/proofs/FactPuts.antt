@@ -11,7 +11,7 @@ use Rattle.adl.specs.Held.{held, tree_of}
 use Rattle.adl.specs.Tables.{Table, Around, arity, outermost, head}
 use Rattle.adl.specs.Reads.{term_of, term, terms, fact, goal_place}
 use Rattle.runs.specs.Standing.{TermsAt}
-use Rattle.calls.specs.Steps.{put_numbers}
+use Rattle.protocol.specs.Steps.{put_numbers}
 use Rattle.table.proofs.Reading.{first_step, series_first, singles_end}
 use Rattle.adl.proofs.Heads.{found}
 use Rattle.adl.proofs.Declared.{range_of}

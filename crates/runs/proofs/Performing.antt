@@ -10,13 +10,13 @@ use Rattle.model.proofs.Numbers.{typed_within, within_bind}
 use Rattle.model.proofs.Reaching.{literals_part, effect_of_known}
 use Rattle.model.proofs.Within.{values_rest}
 use Rattle.store.specs.Sets.{pictured}
-use Rattle.calls.specs.Shown.{shown}
-use Rattle.calls.specs.Machines.{refused}
-use Rattle.calls.specs.TaskCalls.{task_goal, task_perform}
+use Rattle.protocol.specs.Shown.{shown}
+use Rattle.protocol.specs.Machines.{refused}
+use Rattle.protocol.specs.TaskCalls.{task_goal, task_perform}
 use Rattle.runs.specs.Runs.{goal_by_image, perform_by_puts}
-use Rattle.calls.proofs.Images.{image_shows}
-use Rattle.calls.proofs.Puts.{put_step_is}
-use Rattle.calls.proofs.Tests.{if_passed, unless_passed}
+use Rattle.protocol.proofs.Images.{image_shows}
+use Rattle.protocol.proofs.Puts.{put_step_is}
+use Rattle.protocol.proofs.Tests.{if_passed, unless_passed}
 
 -- Literals.
 

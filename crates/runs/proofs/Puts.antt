@@ -6,9 +6,9 @@ use Rattle.std.proofs.lemmas.List.{map_more, take_all, take-append-drop, length-
 use Rattle.store.specs.Sets.{after_put}
 use Rattle.model.specs.Meaning.{State, Literal}
 use Rattle.rising.specs.declared.literal.Literal as code
-use Rattle.calls.proofs.Puts.{put_append}
+use Rattle.protocol.proofs.Puts.{put_append}
 use Rattle.runs.specs.Effects.{meant}
-use Rattle.calls.specs.Steps.{put_literals}
+use Rattle.protocol.specs.Steps.{put_literals}
 
 -- the first i literals that a window holds
 abbrev pub front : ℕ → List code.Literal → List Literal

@@ -15,11 +15,11 @@ use Rattle.adl.specs.Reads as read
 use Rattle.adl.specs.Reads.{formula, goal_place, operators_place, effect_place}
 use Rattle.runs.specs.Standing.{FormulaAt}
 use Rattle.runs.specs.Effects.{EffectAt}
-use Rattle.calls.specs.Shown.{shown}
-use Rattle.calls.specs.Steps.{put_step}
-use Rattle.calls.specs.Machines.{Performed}
+use Rattle.protocol.specs.Shown.{shown}
+use Rattle.protocol.specs.Steps.{put_step}
+use Rattle.protocol.specs.Machines.{Performed}
 use Rattle.runs.specs.Runs.{perform_by_puts}
-use Rattle.calls.proofs.Images.{had_room}
+use Rattle.protocol.proofs.Images.{had_room}
 use Rattle.adl_theorems.proofs.Standing.{stands, operators_length}
 use Rattle.runs.proofs.Fittings.{as_many_objects, operator_begun, effect_starts}
 

@@ -4,9 +4,9 @@ use Rattle.model.specs.Meaning.{State, value, fits, precondition_of, effect_of, 
 use Rattle.model.specs.Runs.{limit}
 use Rattle.model.specs.Trees.{Task, Name, atoms, number}
 use Rattle.store.specs.Sets.{none, pictured}
-use Rattle.calls.specs.Machines.{Begun, Judged, Performed, refused}
-use Rattle.calls.specs.Shown.{shown}
-use Rattle.calls.specs.Steps.{put_step, put_numbers}
+use Rattle.protocol.specs.Machines.{Begun, Judged, Performed, refused}
+use Rattle.protocol.specs.Shown.{shown}
+use Rattle.protocol.specs.Steps.{put_step, put_numbers}
 
 -- `begin` empties the store and puts the facts
 abbrev pub begin_by_puts : Task → ℕ → State → Begun

@@ -2,7 +2,7 @@
 ghost use Rattle.std.specs.Prelude.{◌≡◌, ℕ, ◌<◌, ◌≤◌, map};
 ghost use Rattle.model.specs.Trees.{number};
 ghost use Rattle.adl.specs.Held.{tree_of};
-ghost use Rattle.calls.specs.Steps.{put_numbers};
+ghost use Rattle.protocol.specs.Steps.{put_numbers};
 
 use crate::numbering::atom_number;
 use crate::sheet::Sheet;

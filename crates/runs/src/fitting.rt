@@ -5,11 +5,11 @@ ghost use Rattle.model.specs.Lists.{has, distinct};
 ghost use Rattle.model.specs.Meaning.{typed, fits as fits_task};
 ghost use Rattle.model.specs.Trees.{members};
 ghost use Rattle.adl.specs.Reads.{parameter};
-ghost use Rattle.calls.specs.Names.{name_of};
+ghost use Rattle.protocol.specs.Names.{name_of};
 ghost use Rattle.adl.specs.Held.{held, tree_of};
 
 use adl::Task;
-use calls::Name;
+use protocol::Name;
 
 // Whether the object is a member of the type.
 fn is_member(task: &Task, type_number: u32, object: u32) -> bool

@@ -1,16 +1,16 @@
 // The goal and the operators of a loaded task, by the places that the record keeps.
 ghost use Rattle.std.specs.Prelude.{◌≡◌, ℕ, ◌<◌, ◌≤◌, true, [], length};
 ghost use Rattle.model.specs.Meaning.{value, fits, precondition_of, effect_of, literals_where};
-ghost use Rattle.calls.specs.Names.{name_of};
-ghost use Rattle.calls.specs.Shown.{shown};
+ghost use Rattle.protocol.specs.Names.{name_of};
+ghost use Rattle.protocol.specs.Shown.{shown};
 ghost use Rattle.adl.specs.Held.{tree_of};
-ghost use Rattle.calls.specs.Steps.{put_literals};
+ghost use Rattle.protocol.specs.Steps.{put_literals};
 
 use crate::judge::judge;
 use crate::sheet::Sheet;
 use crate::step::put_effect;
 use adl::Task;
-use calls::Name;
+use protocol::Name;
 use store::Store;
 
 // The value of the goal in the image.

@@ -5,7 +5,7 @@ ghost use Rattle.model.specs.Meaning.{bind, over, value, values};
 ghost use Rattle.model.specs.Trees.{Formula, members};
 ghost use Rattle.adl.specs.Reads.{formulas_of};
 ghost use Rattle.runs.specs.Standing.{FormulaAt, FormulasAt};
-ghost use Rattle.calls.specs.Shown.{shown};
+ghost use Rattle.protocol.specs.Shown.{shown};
 ghost use Rattle.runs.specs.Shown.{bound, junction_for};
 ghost use Rattle.adl.specs.Held.{held, tree_of};
 

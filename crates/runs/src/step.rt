@@ -3,11 +3,11 @@ ghost use Rattle.std.specs.Prelude.{◌≡◌, ℕ, ◌≤◌, length};
 ghost use Rattle.model.specs.Forming.{Within};
 ghost use Rattle.model.specs.Trees.{Effect};
 ghost use Rattle.runs.specs.Effects.{EffectAt, effect_literals};
-ghost use Rattle.calls.specs.Shown.{shown};
+ghost use Rattle.protocol.specs.Shown.{shown};
 ghost use Rattle.runs.specs.Shown.{bound};
 ghost use Rattle.adl.specs.Held.{held, tree_of};
 ghost use Rattle.runs.specs.Windows.{kept};
-ghost use Rattle.calls.specs.Steps.{put_literals};
+ghost use Rattle.protocol.specs.Steps.{put_literals};
 
 use crate::sheet::Sheet;
 use crate::window::{Window, literals_from};

@@ -5,7 +5,7 @@ ghost use Rattle.model.specs.Lists.{gather};
 ghost use Rattle.model.specs.Meaning.{bind, ground};
 ghost use Rattle.model.specs.Trees.{Change, Consequent, Effect, members};
 ghost use Rattle.runs.specs.Effects.{ChangeAt, ConsequentAt, ConsequentsAt, EffectAt, EffectsAt, meant, consequent_literals, consequents_literals, effect_literals, effects_literals};
-ghost use Rattle.calls.specs.Shown.{shown};
+ghost use Rattle.protocol.specs.Shown.{shown};
 ghost use Rattle.runs.specs.Shown.{bound};
 ghost use Rattle.adl.specs.Held.{held, tree_of};
 

@@ -3,6 +3,7 @@ use fault::Fault;
 use std::{fmt, io};
 
 // An answer as the story tells it.
+#[derive(Drop)]
 enum Told {
     Words(&'static str),
     Refused(Fault),

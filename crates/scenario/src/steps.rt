@@ -1,5 +1,5 @@
 // The steps of the story, and what it asks after each.
-use calls::Name;
+use protocol::Name;
 use middleware::{
     COPY, HEADING, HEADING_SHOWN, LOCK, MUTEX, MUTEX_IS_FREE, PUBLISHER, PUBLISHER_HOLDS, READER,
     READER_HOLDS, TIMEOUT, TRACK, TRACK_SHOWN, WRITE,

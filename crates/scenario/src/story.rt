@@ -10,6 +10,7 @@ use std::io;
 use store::Bits;
 
 // The places that a run needs besides its token.
+#[derive(Drop)]
 struct Places<'p> {
     store: Bits<'p>,
     image: &'p mut [u8],
@@ -95,6 +96,7 @@ fn run_both(rt: &impl Print, task: &Task, book: &Book) -> anyhow::Result<()> {
 }
 
 // The arrays of a table.
+#[derive(Drop)]
 pub(crate) struct Arrays<'a> {
     pub(crate) kinds: &'a [u8],
     pub(crate) operands: &'a [u32],

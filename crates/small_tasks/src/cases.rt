@@ -1,6 +1,6 @@
 // Small tasks, and the calls that are played on each.
 use adl::Sizes;
-use calls::{Call, Name};
+use protocol::{Call, Name};
 
 pub struct Case {
     pub words: &'static str,

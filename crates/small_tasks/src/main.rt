@@ -2,9 +2,9 @@
 mod cases;
 
 use adl::Task;
-use calls::Answer;
+use protocol::Answer;
 use cases::{CASES, Case};
-use play::play_task;
+use play::play;
 use std::io;
 use store::Bits;
 
@@ -41,7 +41,7 @@ fn answers_of(case: &Case) -> [Answer; MOST] {
     let mut bytes = [0; 8];
     let mut store = Bits::over(&mut bytes);
     let mut image = [0; 64];
-    let _ = play_task(&task, &mut store, &mut image, case.calls, &mut answers);
+    let _ = play(&task, &mut store, &mut image, case.calls, &mut answers);
     answers
 }
 

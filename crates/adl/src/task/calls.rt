@@ -12,7 +12,7 @@ use crate::check::check_formula;
 use crate::declare::{Places, check_facts, check_operators, check_predicates, check_types};
 use crate::head::{outermost, refuse};
 use crate::sizes::Sizes;
-use crate::table::TaskTable;
+use crate::task_table::TaskTable;
 use fault::{Cause, Fault};
 
 // The sizes, first to last.

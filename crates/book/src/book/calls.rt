@@ -6,7 +6,7 @@ ghost use Rattle.book.specs.Held.{held, tree_of};
 use super::Book;
 use crate::opening::{check_entries, check_lengths, check_sizes};
 use crate::sizes::Sizes;
-use crate::table::BookTable;
+use crate::book_table::BookTable;
 use fault::Fault;
 
 impl<'a> Book<'a> {

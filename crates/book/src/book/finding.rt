@@ -1,6 +1,6 @@
 // Finding the actions and the atoms of a book.
 ghost use Rattle.std.specs.Prelude.{◌≡◌, ◌+◌, ◌<◌, ◌≤◌, length, if◌then◌else◌, Some, None, nat_lt};
-ghost use Rattle.calls.specs.Names.{name_of};
+ghost use Rattle.protocol.specs.Names.{name_of};
 ghost use Rattle.model.specs.Lists.{has};
 ghost use Rattle.book.specs.Finds.{number_from, Tells, action_place, fact_of as fact_in};
 ghost use Rattle.book.specs.Held.{held, tree_of};
@@ -8,7 +8,7 @@ ghost use Rattle.book.specs.Held.{held, tree_of};
 use super::Book;
 use crate::find::{end_of_body, end_of_name, is_before, name_at};
 use crate::groups::{has_atom, place_of};
-use calls::Name;
+use protocol::Name;
 
 impl<'a> Book<'a> {
     // The number of the action with that name. Names rise: those that come before it are passed over.

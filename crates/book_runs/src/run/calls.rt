@@ -2,10 +2,10 @@
 ghost use Rattle.std.specs.Prelude.{◌≡◌, ℕ, ◌<◌, ◌≤◌, List};
 ghost use Rattle.fault.specs.declared.Layer.TheVariants.{Run};
 ghost use Rattle.book.specs.Held.{tree_of};
-ghost use Rattle.calls.specs.Machines.{Begun, Judged, Performed};
-ghost use Rattle.calls.specs.Names.{name_of};
+ghost use Rattle.protocol.specs.Machines.{Begun, Judged, Performed};
+ghost use Rattle.protocol.specs.Names.{name_of};
 ghost use Rattle.book_runs.specs.Begins.{begun, run_of};
-ghost use Rattle.calls.specs.BookCalls.{book_begin, book_holds, book_goal, book_perform};
+ghost use Rattle.protocol.specs.BookCalls.{book_begin, book_holds, book_goal, book_perform};
 ghost use Rattle.book_runs.specs.Runs.{begin_by_puts, goal_by_image, perform_by_puts};
 
 use super::BookRun;
@@ -13,7 +13,7 @@ use crate::action::perform_action;
 use crate::goal::judge_goal;
 use crate::starts::put_starts;
 use book::Book;
-use calls::Name;
+use protocol::Name;
 use fault::{Cause, Fault, Layer};
 use store::{Store, copy};
 

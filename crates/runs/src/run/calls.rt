@@ -3,9 +3,9 @@ ghost use Rattle.std.specs.Prelude.{◌≡◌, ℕ, ◌<◌, ◌≤◌, List};
 ghost use Rattle.fault.specs.declared.Layer.TheVariants.{Run};
 ghost use Rattle.runs.specs.Begins.{begun, run_of};
 ghost use Rattle.adl.specs.Held.{tree_of};
-ghost use Rattle.calls.specs.Names.{name_of};
-ghost use Rattle.calls.specs.Machines.{Begun, Judged, Performed};
-ghost use Rattle.calls.specs.TaskCalls.{task_begin, task_holds, task_goal, task_perform};
+ghost use Rattle.protocol.specs.Names.{name_of};
+ghost use Rattle.protocol.specs.Machines.{Begun, Judged, Performed};
+ghost use Rattle.protocol.specs.TaskCalls.{task_begin, task_holds, task_goal, task_perform};
 ghost use Rattle.runs.specs.Runs.{begin_by_puts, goal_by_image, perform_by_puts};
 
 use super::TaskRun;
@@ -13,7 +13,7 @@ use crate::facts::put_facts;
 use crate::fitting::fits;
 use crate::goal::{is_applicable, judge_goal, put_changes};
 use adl::Task;
-use calls::Name;
+use protocol::Name;
 use fault::{Cause, Fault, Layer};
 use store::{Store, copy, room_for};
 

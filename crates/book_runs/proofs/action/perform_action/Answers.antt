@@ -2,9 +2,9 @@ use Rattle.std.proofs.Common.{◌≡◌, cond, List, sym, refl, ap, ◌∙◌, a
 use Rattle.model.specs.Meaning.{Literal}
 use Rattle.model.specs.Books.{find}
 use Rattle.book.specs.Held.{held, tree_of}
-use Rattle.calls.specs.Names.{name_of}
-use Rattle.calls.specs.Shown.{shown}
-use Rattle.calls.specs.Steps.{put_step}
+use Rattle.protocol.specs.Names.{name_of}
+use Rattle.protocol.specs.Shown.{shown}
+use Rattle.protocol.specs.Steps.{put_step}
 use Rattle.book_runs.specs.Runs.{is_taken}
 use Rattle.book_runs.proofs.Finding.{none_found}
 use Rattle.book_runs.proofs.Actions.{has_place, found_at, precondition_stands, effect_stands, judged_there, literals_there}

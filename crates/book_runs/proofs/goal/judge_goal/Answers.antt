@@ -1,7 +1,7 @@
 use Rattle.std.proofs.Common.{ap, ◌∙◌}
 use Rattle.table.specs.Reading.{Out}
 use Rattle.model.specs.Settling.{Ground}
-use Rattle.calls.specs.Shown.{shown}
+use Rattle.protocol.specs.Shown.{shown}
 use Rattle.book_runs.specs.Standing.{value_in}
 use Rattle.book_runs.proofs.Opened.{parts, goal_stands}
 use Rattle.book_runs.proofs.goal.judge_goal.Goals as goal

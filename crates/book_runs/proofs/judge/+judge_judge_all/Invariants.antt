@@ -3,7 +3,7 @@ use Rattle.table.specs.Answers.{is_good}
 use Rattle.table.specs.Reading.{many, next_place}
 use Rattle.book.specs.Reads.{ground}
 use Rattle.book.specs.Views.{table}
-use Rattle.calls.specs.Shown.{shown}
+use Rattle.protocol.specs.Shown.{shown}
 use Rattle.book_runs.specs.Standing.{values_in}
 use Rattle.book_runs.proofs.judge.+judge_judge_all.Given as goal
 

@@ -4,7 +4,7 @@ use Rattle.table.specs.Reading.{many, next_place}
 use Rattle.model.specs.Meaning.{Literal}
 use Rattle.book.specs.Reads.{literal}
 use Rattle.book.specs.Views.{table}
-use Rattle.calls.specs.Steps.{put_literals}
+use Rattle.protocol.specs.Steps.{put_literals}
 use Rattle.book_runs.specs.Standing.{items_in}
 use Rattle.book_runs.proofs.literals.put_literals.Given as goal
 

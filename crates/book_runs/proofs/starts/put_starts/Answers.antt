@@ -2,8 +2,8 @@ use Rattle.std.proofs.Common.{◌≡◌, ℕ, ◌+◌, sym, refl, ap, ◌∙◌,
 use Rattle.model.specs.Books.{first_facts}
 use Rattle.model.specs.Lists.{below, keep}
 use Rattle.book.specs.Held.{tree_of}
-use Rattle.calls.specs.Steps.{put_numbers}
-use Rattle.calls.specs.BookCalls.{facts}
+use Rattle.protocol.specs.Steps.{put_numbers}
+use Rattle.protocol.specs.BookCalls.{facts}
 use Rattle.book_runs.proofs.Beginning.{put_none, put_start, put_no_start}
 use Rattle.book_runs.proofs.Opened.{fact_count}
 use Rattle.book_runs.proofs.starts.put_starts.Goals as goal

@@ -2,7 +2,7 @@ use Rattle.std.proofs.Common.{◌≡◌}
 use Rattle.model.specs.Books.{first_facts}
 use Rattle.model.specs.Lists.{below, keep}
 use Rattle.book.specs.Held.{tree_of}
-use Rattle.calls.specs.Steps.{put_numbers}
+use Rattle.protocol.specs.Steps.{put_numbers}
 use Rattle.book_runs.proofs.starts.put_starts.Given as goal
 
 -- those among the facts so far are put

@@ -3,7 +3,7 @@ use Rattle.table.specs.Answers.{is_good}
 use Rattle.book.specs.Reads.{literals}
 use Rattle.model.specs.Meaning.{Literal}
 use Rattle.book.specs.Views.{table}
-use Rattle.calls.specs.Shown.{shown}
+use Rattle.protocol.specs.Shown.{shown}
 use Rattle.book_runs.proofs.Effects.{when_stands, when_puts}
 use Rattle.book_runs.proofs.step.put_clause.Goals as goal
 

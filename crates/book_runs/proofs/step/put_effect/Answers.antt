@@ -2,7 +2,7 @@ use Rattle.std.proofs.Common.{◌≡◌, ◌+◌, ◌-◌, get_or, sym, ap, ◌�
 use Rattle.table.specs.Reading.{many}
 use Rattle.book.specs.Views.{table}
 use Rattle.book.specs.Reads.{clause}
-use Rattle.calls.specs.Shown.{shown}
+use Rattle.protocol.specs.Shown.{shown}
 use Rattle.book_runs.specs.Standing.{items_in}
 use Rattle.book_runs.proofs.Reading.{first, first_stands}
 use Rattle.book_runs.proofs.Effects.{put_part}

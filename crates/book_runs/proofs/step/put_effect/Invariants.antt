@@ -4,8 +4,8 @@ use Rattle.table.specs.Reading.{many}
 use Rattle.model.specs.Books.{action_literals}
 use Rattle.book.specs.Reads.{clause}
 use Rattle.book.specs.Views.{table}
-use Rattle.calls.specs.Shown.{shown}
-use Rattle.calls.specs.Steps.{put_literals}
+use Rattle.protocol.specs.Shown.{shown}
+use Rattle.protocol.specs.Steps.{put_literals}
 use Rattle.book_runs.specs.Standing.{items_in}
 use Rattle.book_runs.proofs.step.put_effect.Given as goal
 

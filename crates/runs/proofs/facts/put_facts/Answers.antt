@@ -4,7 +4,7 @@ use Rattle.table.specs.Reading.{many}
 use Rattle.model.specs.Trees.{Fact, number}
 use Rattle.adl.specs.Held.{held, tree_of}
 use Rattle.adl.specs.Reads.{fact, facts_place}
-use Rattle.calls.specs.Steps.{put_numbers}
+use Rattle.protocol.specs.Steps.{put_numbers}
 use Rattle.adl_theorems.proofs.Standing.{stands, facts_length}
 use Rattle.runs.proofs.FactPuts.{numbered, next_in, put_next}
 use Rattle.runs.proofs.facts.put_facts.Goals as goal

@@ -2,7 +2,7 @@ use Rattle.std.proofs.Common.{◌≡◌, ◌-◌, drop}
 use Rattle.table.specs.Reading.{good, many}
 use Rattle.adl.specs.Held.{held, tree_of}
 use Rattle.adl.specs.Reads.{fact, goal_place}
-use Rattle.calls.specs.Steps.{put_numbers}
+use Rattle.protocol.specs.Steps.{put_numbers}
 use Rattle.runs.proofs.FactPuts.{numbered}
 use Rattle.runs.proofs.facts.put_facts.Given as goal
 

@@ -1,7 +1,7 @@
 use Rattle.std.proofs.Common.{◌+◌, get_or, sym, ap, ◌∙◌, arith}
 use Rattle.table.specs.Reading.{many}
 use Rattle.adl.specs.Held.{held, tree_of}
-use Rattle.calls.specs.Names.{name_of}
+use Rattle.protocol.specs.Names.{name_of}
 use Rattle.adl.specs.Reads.{parameter}
 use Rattle.adl_theorems.proofs.Standing.{operators_length}
 use Rattle.runs.proofs.Fittings.{no_operator, wrong_number, fits_if_distinct, fits_not, operator_begun}

@@ -2,8 +2,8 @@ use Rattle.std.proofs.Common.{ℕ, List, sym, ap, ◌∙◌, subst, arith}
 use Rattle.model.specs.Forming.{Within}
 use Rattle.model.specs.Meaning.{value, precondition_of}
 use Rattle.adl.specs.Held.{tree_of}
-use Rattle.calls.specs.Names.{name_of}
-use Rattle.calls.specs.Shown.{shown}
+use Rattle.protocol.specs.Names.{name_of}
+use Rattle.protocol.specs.Shown.{shown}
 use Rattle.runs.proofs.Turns.{operator_known, start_inside, objects_known, few_objects, few_parameters, precondition_stands}
 use Rattle.runs.proofs.goal.is_applicable.Goals as goal
 

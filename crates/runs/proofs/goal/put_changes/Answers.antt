@@ -2,9 +2,9 @@ use Rattle.std.proofs.Common.{ℕ, List, sym, ap, ◌∙◌, subst, arith}
 use Rattle.model.specs.Forming.{Within}
 use Rattle.model.specs.Meaning.{operator_of}
 use Rattle.adl.specs.Held.{tree_of}
-use Rattle.calls.specs.Names.{name_of}
-use Rattle.calls.specs.Shown.{shown}
-use Rattle.calls.specs.Steps.{put_literals}
+use Rattle.protocol.specs.Names.{name_of}
+use Rattle.protocol.specs.Shown.{shown}
+use Rattle.protocol.specs.Steps.{put_literals}
 use Rattle.runs.specs.Effects.{effect_literals}
 use Rattle.runs.proofs.Turns.{operator_known, objects_known, few_objects, effect_stands}
 use Rattle.runs.proofs.goal.put_changes.Goals as goal

@@ -9,7 +9,7 @@ use Rattle.model.proofs.Numbers.{within_bind}
 use Rattle.runs.specs.declared.sheet.Sheet.{Sheet}
 use Rattle.adl.specs.Reads.{formulas_of}
 use Rattle.adl.specs.Held.{held, tree_of}
-use Rattle.calls.specs.Shown.{shown}
+use Rattle.protocol.specs.Shown.{shown}
 use Rattle.runs.specs.Shown.{bound, junction_for}
 use Rattle.runs.specs.Standing.{FormulaAt, FormulasAt}
 use Rattle.table.proofs.Codes.{other_code}

@@ -2,7 +2,7 @@ use Rattle.std.proofs.Common.{◌≡◌, ℕ, ◌+◌, ◌-◌, ◌*◌, ◌<◌
 use Rattle.model.specs.Trees.{Formula, in_set}
 use Rattle.model.specs.Meaning.{bind, value}
 use Rattle.adl.specs.Held.{held, tree_of}
-use Rattle.calls.specs.Shown.{shown}
+use Rattle.protocol.specs.Shown.{shown}
 use Rattle.runs.specs.Shown.{bound}
 use Rattle.runs.specs.Standing.{FormulaAt}
 use Rattle.runs.proofs.judge.+judge_judge_all_judge_each.Given as goal

@@ -5,11 +5,11 @@ use Rattle.runs.specs.declared.sheet.Sheet.{Sheet}
 use Rattle.adl.specs.declared.task.Task.{Task}
 use Rattle.runs.specs.declared.window.Window.{Window}
 use Rattle.runs.specs.Effects.{effect_literals}
-use Rattle.calls.specs.Shown.{shown}
+use Rattle.protocol.specs.Shown.{shown}
 use Rattle.runs.specs.Shown.{bound}
 use Rattle.adl.specs.Held.{held, tree_of}
 use Rattle.runs.specs.Windows.{kept}
-use Rattle.calls.specs.Steps.{put_literals}
+use Rattle.protocol.specs.Steps.{put_literals}
 use Rattle.runs.proofs.Bounds.{few_literals}
 use Rattle.adl_theorems.proofs.Standing.{same_objects}
 use Rattle.runs.proofs.Puts.{put_window, put_last, full}

@@ -1,10 +1,10 @@
 use Rattle.std.proofs.Common.{◌≡◌, ℕ, ◌-◌, ◌^◌, take}
 use Rattle.model.specs.Trees.{Effect}
 use Rattle.runs.specs.Effects.{EffectAt, effect_literals}
-use Rattle.calls.specs.Shown.{shown}
+use Rattle.protocol.specs.Shown.{shown}
 use Rattle.runs.specs.Shown.{bound}
 use Rattle.adl.specs.Held.{held, tree_of}
-use Rattle.calls.specs.Steps.{put_literals}
+use Rattle.protocol.specs.Steps.{put_literals}
 use Rattle.runs.proofs.step.put_effect.Given as goal
 
 abbrev pub invariant-loop-at : goal.invariant-loop-at

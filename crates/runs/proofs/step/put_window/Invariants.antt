@@ -1,5 +1,5 @@
 use Rattle.std.proofs.Common.{◌≡◌}
-use Rattle.calls.specs.Steps.{put_literals}
+use Rattle.protocol.specs.Steps.{put_literals}
 use Rattle.runs.proofs.Puts.{front}
 use Rattle.runs.proofs.step.put_window.Given as goal
 

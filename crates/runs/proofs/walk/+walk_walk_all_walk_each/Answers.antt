@@ -9,7 +9,7 @@ use Rattle.model.specs.Trees.{change, conjunction, for_each, when, in_set}
 use Rattle.runs.specs.declared.sheet.Sheet.{Sheet}
 use Rattle.runs.specs.Effects.{effect_literals}
 use Rattle.adl.specs.Held.{held, tree_of}
-use Rattle.calls.specs.Shown.{shown}
+use Rattle.protocol.specs.Shown.{shown}
 use Rattle.runs.specs.Shown.{bound}
 use Rattle.adl.specs.Reads.{effects_of}
 use Rattle.table.proofs.Codes.{other_code}

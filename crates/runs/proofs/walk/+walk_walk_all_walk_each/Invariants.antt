@@ -4,7 +4,7 @@ use Rattle.model.specs.Meaning.{bind}
 use Rattle.model.specs.Trees.{Effect, in_set}
 use Rattle.runs.specs.Effects.{EffectAt, effect_literals}
 use Rattle.adl.specs.Held.{held, tree_of}
-use Rattle.calls.specs.Shown.{shown}
+use Rattle.protocol.specs.Shown.{shown}
 use Rattle.runs.specs.Shown.{bound}
 use Rattle.runs.proofs.walk.+walk_walk_all_walk_each.Given as goal
 

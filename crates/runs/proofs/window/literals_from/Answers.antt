@@ -1,6 +1,6 @@
 use Rattle.runs.specs.Effects.{effect_literals}
 use Rattle.adl.specs.Held.{tree_of}
-use Rattle.calls.specs.Shown.{shown}
+use Rattle.protocol.specs.Shown.{shown}
 use Rattle.runs.specs.Shown.{bound}
 use Rattle.runs.proofs.Sinks.{fresh_filled}
 use Rattle.runs.proofs.window.literals_from.Goals as goal

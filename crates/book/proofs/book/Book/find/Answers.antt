@@ -1,5 +1,5 @@
 use Rattle.std.proofs.Common.{sym, ap, ◌∙◌, subst, arith}
-use Rattle.calls.specs.Names.{name_of}
+use Rattle.protocol.specs.Names.{name_of}
 use Rattle.model.specs.Trees.{Name}
 use Rattle.book.specs.Reads.{precedes, listed}
 use Rattle.book.specs.Held.{held}

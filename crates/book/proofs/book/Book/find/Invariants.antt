@@ -1,5 +1,5 @@
 use Rattle.std.proofs.Common.{◌≡◌}
-use Rattle.calls.specs.Names.{name_of}
+use Rattle.protocol.specs.Names.{name_of}
 use Rattle.book.specs.Finds.{action_place}
 use Rattle.book.specs.Held.{held}
 use Rattle.book.proofs.Searching.{Passed}

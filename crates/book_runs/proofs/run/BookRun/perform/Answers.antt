@@ -1,6 +1,6 @@
 use Rattle.std.proofs.Common.{◌∙◌}
 use Rattle.book.specs.Held.{tree_of}
-use Rattle.calls.specs.Names.{name_of}
+use Rattle.protocol.specs.Names.{name_of}
 use Rattle.book_runs.proofs.Opened.{well_formed}
 use Rattle.book_runs.proofs.Performing.{takes_the_step}
 use Rattle.book_runs.proofs.run.BookRun.perform.Goals as goal

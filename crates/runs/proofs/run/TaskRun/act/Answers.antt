@@ -1,9 +1,9 @@
 use Rattle.std.proofs.Common.{refl, ◌∙◌}
 use Rattle.model.specs.Meaning.{value, effect_of, literals_where}
 use Rattle.adl.specs.Held.{tree_of}
-use Rattle.calls.specs.Names.{name_of}
-use Rattle.calls.specs.Shown.{shown}
-use Rattle.calls.proofs.Puts.{step_of_two}
+use Rattle.protocol.specs.Names.{name_of}
+use Rattle.protocol.specs.Shown.{shown}
+use Rattle.protocol.proofs.Puts.{step_of_two}
 use Rattle.runs.proofs.Turns.{step_taken}
 use Rattle.runs.proofs.run.TaskRun.act.Goals as goal
 

@@ -1,6 +1,6 @@
 use Rattle.std.proofs.Common.{◌∙◌}
 use Rattle.adl.specs.Held.{held, tree_of}
-use Rattle.calls.specs.Names.{name_of}
+use Rattle.protocol.specs.Names.{name_of}
 use Rattle.runs.proofs.Performing.{takes_the_step}
 use Rattle.adl_theorems.proofs.WellFormed.{loaded_tasks_are_well_formed}
 use Rattle.runs.proofs.run.TaskRun.perform.Goals as goal

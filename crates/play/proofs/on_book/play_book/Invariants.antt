@@ -1,10 +1,10 @@
 use Rattle.std.proofs.Common.{◌≡◌}
 use Rattle.book.specs.Held.{tree_of}
-use Rattle.calls.specs.Machines.{unbegun}
-use Rattle.calls.specs.BookCalls.{book_machine}
+use Rattle.protocol.specs.Machines.{unbegun}
+use Rattle.protocol.specs.BookCalls.{book_machine}
 use Rattle.play.specs.BookRuns.{steps_of, is_of}
-use Rattle.calls.proofs.Played.{Played}
-use Rattle.play.proofs.book.play_book.Given as goal
+use Rattle.protocol.proofs.Played.{Played}
+use Rattle.play.proofs.on_book.play_book.Given as goal
 
 -- the run is one of the book, the store keeps its size, and the calls so far are played
 abbrev pub invariant-loop-i : goal.invariant-loop-i

@@ -7,7 +7,7 @@ use Rattle.model.specs.Forming.{Within}
 use Rattle.model.specs.Lists.{In, any_of, has}
 use Rattle.model.specs.Meaning.{State, Literal, changes, changed}
 use Rattle.store.specs.Sets.{with_fact, after_put}
-use Rattle.calls.specs.Steps.{put_literals, put_step, put_numbers}
+use Rattle.protocol.specs.Steps.{put_literals, put_step, put_numbers}
 
 -- Numbers.
 

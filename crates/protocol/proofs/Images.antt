@@ -6,7 +6,7 @@ use Rattle.std.proofs.lemmas.List.{get_or_append_left}
 use Rattle.fault.specs.declared.Fault.{Fault}
 use Rattle.model.specs.Meaning.{State}
 use Rattle.store.specs.Sets.{pictured}
-use Rattle.calls.specs.Shown.{shown}
+use Rattle.protocol.specs.Shown.{shown}
 
 -- a byte of an image shows what it was made of
 byte_shows : (b : Bool) → eqb (cond b 1 0 % 2) 1 ≡ b

@@ -1,10 +1,10 @@
 use Rattle.std.proofs.Common.{◌≡◌}
 use Rattle.adl.specs.Held.{tree_of}
-use Rattle.calls.specs.Machines.{unbegun}
-use Rattle.calls.specs.TaskCalls.{task_machine}
+use Rattle.protocol.specs.Machines.{unbegun}
+use Rattle.protocol.specs.TaskCalls.{task_machine}
 use Rattle.play.specs.TaskRuns.{steps_of, is_of}
-use Rattle.calls.proofs.Played.{Played}
-use Rattle.play.proofs.task.play_task.Given as goal
+use Rattle.protocol.proofs.Played.{Played}
+use Rattle.play.proofs.on_task.play.Given as goal
 
 -- the run is one of the task, the store keeps its size, and the calls so far are played
 abbrev pub invariant-loop-i : goal.invariant-loop-i

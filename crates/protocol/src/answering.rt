@@ -1,6 +1,6 @@
 // Results as answers.
 ghost use Rattle.std.specs.Prelude.{◌≡◌};
-ghost use Rattle.calls.specs.Machines.{done as done_or_refused, told as told_or_refused};
+ghost use Rattle.protocol.specs.Machines.{done as done_or_refused, told as told_or_refused};
 
 use crate::calls::Answer;
 use fault::Fault;

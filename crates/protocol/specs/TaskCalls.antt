@@ -5,7 +5,7 @@ use Rattle.model.specs.Trees.{Task, Name, atoms}
 use Rattle.model.specs.Meaning.{State, value, fits, applicable, step, is_fact}
 use Rattle.model.specs.Runs.{limit}
 use Rattle.store.specs.Sets.{pictured}
-use Rattle.calls.specs.Machines.{refused, Begun, Judged, Performed, Machine}
+use Rattle.protocol.specs.Machines.{refused, Begun, Judged, Performed, Machine}
 
 -- the facts, in whatever the store held
 abbrev pub task_begin : Task → ℕ → State → Begun

@@ -2,11 +2,11 @@
 use Rattle.std.proofs.Common.{◌≡◌, ℕ, suc, ◌+◌, ◌<◌, ◌≤◌, List, [], ◌∷◌, ◌++◌, length, get_or, take, drop, set, Option, sym, refl, ap, ◌∙◌, arith}
 use Rattle.std.proofs.lemmas.List.{append_assoc, length-map, length-take-le, set_at, take_more, drop_more, take_all, take_at, drop_at}
 use Rattle.model.specs.Meaning.{State}
-use Rattle.calls.specs.Machines.{Machine, Turn, turn_from, turn, turns, after, answers}
-use Rattle.calls.specs.declared.calls.Answer.{Answer}
-use Rattle.calls.specs.declared.calls.Answer.TheVariants.{NoRun}
-use Rattle.calls.specs.declared.calls.Call.{Call}
-use Rattle.calls.specs.declared.calls.Call.TheVariants.{Begin}
+use Rattle.protocol.specs.Machines.{Machine, Turn, turn_from, turn, turns, after, answers}
+use Rattle.protocol.specs.declared.calls.Answer.{Answer}
+use Rattle.protocol.specs.declared.calls.Answer.TheVariants.{NoRun}
+use Rattle.protocol.specs.declared.calls.Call.{Call}
+use Rattle.protocol.specs.declared.calls.Call.TheVariants.{Begin}
 
 -- writing the place where the rest of a list begins
 written : (xs ys : List Answer) (i : ℕ) (y : Answer) → length xs ≡ i → i < length ys → set (xs ++ drop i ys) i y ≡ (xs ++ (y ∷ [])) ++ drop (i + 1) ys

@@ -1,28 +1,28 @@
-// Playing a list of calls on a book.
+// Playing a list of calls on a task.
 ghost use Rattle.std.specs.Prelude.{◌≡◌, ℕ, ◌<◌, ◌≤◌, true, false, List, length, take, drop, Some};
-ghost use Rattle.book.specs.Held.{tree_of};
-ghost use Rattle.calls.specs.Machines.{Turn, unbegun, running, turn_from, after, answers as AnswersOf};
-ghost use Rattle.calls.specs.BookCalls.{book_machine};
-ghost use Rattle.play.specs.BookRuns.{steps_of, is_of};
+ghost use Rattle.adl.specs.Held.{tree_of};
+ghost use Rattle.protocol.specs.Machines.{Turn, unbegun, running, turn_from, after, answers as AnswersOf};
+ghost use Rattle.protocol.specs.TaskCalls.{task_machine};
+ghost use Rattle.play.specs.TaskRuns.{steps_of, is_of};
 
-use book::Book;
-use book_runs::BookRun;
-use calls::{Answer, Call, done, told};
+use adl::Task;
+use protocol::{Answer, Call, done, told};
+use runs::TaskRun;
 use store::Store;
 
 // A begin during a run: where it is accepted the old run is ended, where it is refused the old one goes on.
-fn begin_again<'b, 'a, S: Store>(
-    book: &'b Book<'a>,
-    run: BookRun<'b, 'a>,
+fn begin_again<'t, 'a, S: Store>(
+    task: &'t Task<'a>,
+    run: TaskRun<'t, 'a>,
     store: &mut S,
-) -> (BookRun<'b, 'a>, Answer)
-    requires { run.book.now ≡ book.now }
+) -> (TaskRun<'t, 'a>, Answer)
+    requires { run.task.now ≡ task.now }
     ensures size { S.extent store.new ≡ S.extent store.old }
-    ensures book { result.0.book.now ≡ book.now }
+    ensures task { result.0.task.now ≡ task.now }
     ensures turn { (im : List ℕ) → record { steps = Some result.0.steps; set = S.facts store.new; image = im; answer = result.1 }
-        ≡ running (book_machine (tree_of book.now) (S.extent store.old)) run.entry.steps (S.facts store.old) im Call.Begin }
+        ≡ running (task_machine (tree_of task.now) (S.extent store.old)) run.entry.steps (S.facts store.old) im Call.Begin }
 {
-    match BookRun::begin(book, store) {
+    match TaskRun::begin(task, store) {
         Ok(begun) => {
             let _ = run.end();
             (begun, Answer::Done)
@@ -32,22 +32,22 @@ fn begin_again<'b, 'a, S: Store>(
 }
 
 // A call during a run.
-fn call_running<'b, 'a, S: Store>(
-    book: &'b Book<'a>,
-    mut run: BookRun<'b, 'a>,
+fn call_running<'t, 'a, S: Store>(
+    task: &'t Task<'a>,
+    mut run: TaskRun<'t, 'a>,
     store: &mut S,
     image: &mut [u8],
     call: Call,
-) -> (Option<BookRun<'b, 'a>>, Answer)
-    requires { run.book.now ≡ book.now }
+) -> (Option<TaskRun<'t, 'a>>, Answer)
+    requires { run.task.now ≡ task.now }
     ensures size { S.extent store.new ≡ S.extent store.old }
-    ensures book { is_of book.now result.0 }
+    ensures task { is_of task.now result.0 }
     ensures turn { record { steps = steps_of result.0; set = S.facts store.new; image = image.new; answer = result.1 }
-        ≡ running (book_machine (tree_of book.now) (S.extent store.old)) run.entry.steps (S.facts store.old) image.old call.entry }
+        ≡ running (task_machine (tree_of task.now) (S.extent store.old)) run.entry.steps (S.facts store.old) image.old call.entry }
 {
     match call {
         Call::Begin => {
-            let (run, answer) = begin_again(book, run, store);
+            let (run, answer) = begin_again(task, run, store);
             (Some(run), answer)
         }
         Call::Perform(name) => {
@@ -67,23 +67,23 @@ fn call_running<'b, 'a, S: Store>(
 }
 
 // A call, whether or not there is a run.
-fn call_any<'b, 'a, S: Store>(
-    book: &'b Book<'a>,
-    run: Option<BookRun<'b, 'a>>,
+fn call_any<'t, 'a, S: Store>(
+    task: &'t Task<'a>,
+    run: Option<TaskRun<'t, 'a>>,
     store: &mut S,
     image: &mut [u8],
     call: Call,
-) -> (Option<BookRun<'b, 'a>>, Answer)
-    requires { is_of book.now run }
+) -> (Option<TaskRun<'t, 'a>>, Answer)
+    requires { is_of task.now run }
     ensures size { S.extent store.new ≡ S.extent store.old }
-    ensures book { is_of book.now result.0 }
+    ensures task { is_of task.now result.0 }
     ensures turn { record { steps = steps_of result.0; set = S.facts store.new; image = image.new; answer = result.1 }
-        ≡ turn_from (book_machine (tree_of book.now) (S.extent store.old)) (steps_of run.entry) (S.facts store.old) image.old call.entry }
+        ≡ turn_from (task_machine (tree_of task.now) (S.extent store.old)) (steps_of run.entry) (S.facts store.old) image.old call.entry }
 {
     match run {
-        Some(run) => call_running(book, run, store, image, call),
+        Some(run) => call_running(task, run, store, image, call),
         None => match call {
-            Call::Begin => match BookRun::begin(book, store) {
+            Call::Begin => match TaskRun::begin(task, store) {
                 Ok(run) => (Some(run), Answer::Done),
                 Err(fault) => (None, Answer::Refused(fault)),
             },
@@ -93,16 +93,16 @@ fn call_any<'b, 'a, S: Store>(
 }
 
 // Ends a run that the calls have not ended.
-fn leave(run: Option<BookRun>) {
+fn leave(run: Option<TaskRun>) {
     if let Some(run) = run {
         let _ = run.end();
     }
 }
 
-// Plays the calls one after the other on a book, over a store and an image, and writes what each answers; false, with nothing done,
+// Plays the calls one after the other on a task, over a store and an image, and writes what each answers; false, with nothing done,
 // where there are fewer places for answers than calls.
-pub fn play_book<S: Store>(
-    book: &Book,
+pub fn play<S: Store>(
+    task: &Task,
     store: &mut S,
     image: &mut [u8],
     calls: &[Call],
@@ -111,17 +111,17 @@ pub fn play_book<S: Store>(
     ensures size { S.extent store.new ≡ S.extent store.old }
     ensures short { length answers.old < length calls.now → (result ≡ false) × (answers.new ≡ answers.old) × (image.new ≡ image.old) × (store.new ≡ store.old) }
     ensures long { length calls.now ≤ length answers.old → result ≡ true }
-    ensures answered { result ≡ true → take (length calls.now) answers.new ≡ AnswersOf (book_machine (tree_of book.now) (S.extent store.old)) (unbegun (S.facts store.old) image.old) calls.now }
+    ensures answered { result ≡ true → take (length calls.now) answers.new ≡ AnswersOf (task_machine (tree_of task.now) (S.extent store.old)) (unbegun (S.facts store.old) image.old) calls.now }
     ensures rest { result ≡ true → drop (length calls.now) answers.new ≡ drop (length calls.now) answers.old }
-    ensures set { result ≡ true → S.facts store.new ≡ (after (book_machine (tree_of book.now) (S.extent store.old)) (unbegun (S.facts store.old) image.old) calls.now).set }
-    ensures image { result ≡ true → image.new ≡ (after (book_machine (tree_of book.now) (S.extent store.old)) (unbegun (S.facts store.old) image.old) calls.now).image }
+    ensures set { result ≡ true → S.facts store.new ≡ (after (task_machine (tree_of task.now) (S.extent store.old)) (unbegun (S.facts store.old) image.old) calls.now).set }
+    ensures image { result ≡ true → image.new ≡ (after (task_machine (tree_of task.now) (S.extent store.old)) (unbegun (S.facts store.old) image.old) calls.now).image }
 {
     if answers.len() < calls.len() {
         return false;
     }
     let mut run = None;
     for i in 0..calls.len() {
-        let (next, answer) = call_any(book, run, store, image, calls[i]);
+        let (next, answer) = call_any(task, run, store, image, calls[i]);
         run = next;
         answers[i] = answer;
     }

@@ -1,12 +1,12 @@
 use Rattle.std.proofs.Common.{Some, sym, ap, ◌∙◌}
 use Rattle.adl.specs.Held.{tree_of}
-use Rattle.calls.specs.Names.{name_of}
-use Rattle.calls.specs.Machines.{after_perform, running}
-use Rattle.calls.specs.TaskCalls.{task_machine, task_perform}
+use Rattle.protocol.specs.Names.{name_of}
+use Rattle.protocol.specs.Machines.{after_perform, running}
+use Rattle.protocol.specs.TaskCalls.{task_machine, task_perform}
 use Rattle.adl.specs.declared.task.Task.{Task}
-use Rattle.calls.specs.declared.calls.Call.{Call}
-use Rattle.calls.specs.declared.calls.Answer.{Answer}
-use Rattle.play.proofs.task.call_running.Goals as goal
+use Rattle.protocol.specs.declared.calls.Call.{Call}
+use Rattle.protocol.specs.declared.calls.Answer.{Answer}
+use Rattle.play.proofs.on_task.call_running.Goals as goal
 
 pub returns-in-Perform : goal.returns-in-Perform
 returns-in-Perform g c =

@@ -1,12 +1,12 @@
 use Rattle.std.proofs.Common.{Some, sym, ap, ◌∙◌}
 use Rattle.book.specs.Held.{tree_of}
-use Rattle.calls.specs.Names.{name_of}
-use Rattle.calls.specs.Machines.{after_perform, running}
-use Rattle.calls.specs.BookCalls.{book_machine, book_perform}
+use Rattle.protocol.specs.Names.{name_of}
+use Rattle.protocol.specs.Machines.{after_perform, running}
+use Rattle.protocol.specs.BookCalls.{book_machine, book_perform}
 use Rattle.book.specs.declared.book.Book.{Book}
-use Rattle.calls.specs.declared.calls.Call.{Call}
-use Rattle.calls.specs.declared.calls.Answer.{Answer}
-use Rattle.play.proofs.book.call_running.Goals as goal
+use Rattle.protocol.specs.declared.calls.Call.{Call}
+use Rattle.protocol.specs.declared.calls.Answer.{Answer}
+use Rattle.play.proofs.on_book.call_running.Goals as goal
 
 pub returns-in-Perform : goal.returns-in-Perform
 returns-in-Perform g c =

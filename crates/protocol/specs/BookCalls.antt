@@ -8,7 +8,7 @@ use Rattle.model.specs.Settling.{ground_value}
 use Rattle.model.specs.Books.{Action, Book, find, act, first_facts, truth}
 use Rattle.model.specs.Runs.{limit}
 use Rattle.store.specs.Sets.{pictured}
-use Rattle.calls.specs.Machines.{refused, Begun, Judged, Performed, Machine}
+use Rattle.protocol.specs.Machines.{refused, Begun, Judged, Performed, Machine}
 
 -- how many facts a book's run keeps: one for each relevant atom
 abbrev pub facts : Book → ℕ

@@ -5,11 +5,11 @@ use Rattle.fault.specs.declared.Layer.TheVariants.{Run}
 use Rattle.fault.specs.Faults.{refusal}
 use Rattle.model.specs.Meaning.{State}
 use Rattle.model.specs.Trees as tree
-use Rattle.calls.specs.Names.{name_of}
-use Rattle.calls.specs.declared.calls.Answer.{Answer}
-use Rattle.calls.specs.declared.calls.Answer.TheVariants.{NoRun, Done, Told, Count, Refused}
-use Rattle.calls.specs.declared.calls.Call.{Call}
-use Rattle.calls.specs.declared.calls.Call.TheVariants.{Begin, Perform, Holds, Goal, End}
+use Rattle.protocol.specs.Names.{name_of}
+use Rattle.protocol.specs.declared.calls.Answer.{Answer}
+use Rattle.protocol.specs.declared.calls.Answer.TheVariants.{NoRun, Done, Told, Count, Refused}
+use Rattle.protocol.specs.declared.calls.Call.{Call}
+use Rattle.protocol.specs.declared.calls.Call.TheVariants.{Begin, Perform, Holds, Goal, End}
 
 -- a refusal of a run
 abbrev pub refused : {X : Type 0} → ℕ → ℕ → Result X Fault
