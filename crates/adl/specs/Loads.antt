@@ -1,9 +1,8 @@
 -- What loading answers, and the task that a record holds.
-use Rattle.std.specs.Prelude.{ℕ, Bool, true, ◌||◌, List, [], length, Ok, ◌==◌, nat_lt}
+use Rattle.std.specs.Prelude.{ℕ, Bool, true, false, cond, ◌||◌, List, [], ◌∷◌, length, Ok, Err, Result, ◌==◌, nat_lt}
 use Rattle.fault.specs.declared.Fault.{Fault}
 use Rattle.fault.specs.declared.Layer.TheVariants as layer
 use Rattle.fault.specs.Faults.{refusal}
-use Rattle.table.specs.Answers as table
 use Rattle.table.specs.Reading.{Out, bad, good}
 use Rattle.model.specs.Trees as tree
 use Rattle.model.specs.Trees.{constant}
@@ -12,7 +11,7 @@ use Rattle.adl.specs.Reads.{task}
 use Rattle.adl.specs.declared.sizes.Sizes.{Sizes}
 
 abbrev pub Answer : Type 0
-Answer = table.Answer
+Answer = Result (Unit {0}) Fault
 
 -- a fault of a table
 abbrev pub faulty : ℕ → ℕ → Fault
@@ -20,11 +19,12 @@ faulty n p = refusal n layer.Task p
 
 -- if the test passes, the fault with number n at place p
 abbrev pub refuse_if : Bool → ℕ → ℕ → Answer → Answer
-refuse_if test n p rest = table.refuse_if layer.Task test n p rest
+refuse_if test n p rest = cond test (Err (faulty n p)) rest
 
 -- after an answer that is no refusal
 abbrev pub and_then : Answer → Answer → Answer
-and_then first next = table.and_then first next
+and_then (Ok u) next = next
+and_then (Err f) next = Err f
 
 -- the sizes, first to last: each outside its limits is refused by its position
 abbrev pub sizes_fit : Sizes → Answer
@@ -56,15 +56,20 @@ given z ks os = record {
 
 -- a reading as an answer
 abbrev pub done : {A : Type 0} → Out A → Answer
-done o = table.done layer.Task o
+done (bad n p) = Err (faulty n p)
+done (good x j) = Ok tt
 
 -- what loading answers: the first fault of the sizes, of the arrays, of the entries
 abbrev pub loads : Sizes → List ℕ → List ℕ → Answer
 loads z ks os = and_then (sizes_fit z) (and_then (lengths_fit z.entries ks os) (done (task (given z ks os))))
 
+abbrev pub is_good : {A : Type 0} → Out A → Bool
+is_good (bad n p) = false
+is_good (good x j) = true
+
 -- a task stands in the table
 abbrev pub accepted : Table → Bool
-accepted t = table.is_good (task t)
+accepted t = is_good (task t)
 
 -- one object and the goal TRUE, with nothing else
 abbrev pub blank : tree.Task

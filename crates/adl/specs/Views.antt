@@ -1,12 +1,10 @@
 -- What the values of the code stand for.
 use Rattle.std.specs.Prelude.{ℕ, Ok, Err, Result}
 use Rattle.fault.specs.declared.Fault.{Fault}
-use Rattle.fault.specs.declared.Layer.TheVariants as layer
-use Rattle.table.specs.Answers as answers
 use Rattle.table.specs.Kinds.{code_of}
-use Rattle.table.specs.Reading.{Entry, entry, Out}
+use Rattle.table.specs.Reading.{Entry, entry, Out, bad, good}
 use Rattle.adl.specs.Tables as spec
-use Rattle.adl.specs.Loads.{given}
+use Rattle.adl.specs.Loads.{given, faulty}
 use Rattle.adl.specs.declared.task_table.TaskTable.{TaskTable}
 use Rattle.adl.specs.declared.around.Around.{Around}
 use Rattle.adl.specs.declared.head.Head.{Head}
@@ -20,7 +18,8 @@ around a = record { variables = a.variables; quantifiers = a.quantifiers; start 
 
 -- the place after what was read, or the fault
 abbrev pub answer : {A : Type 0} → Out A → Result ℕ Fault
-answer o = answers.answer layer.Task o
+answer (bad n p) = Err (faulty n p)
+answer (good x j) = Ok j
 
 -- an entry with its kind's code
 abbrev pub coded : Head → Entry
@@ -32,4 +31,5 @@ all_coded (Err f) = Err f
 
 -- the entry that was read, or the fault
 abbrev pub heading : Out Entry → Result Entry Fault
-heading o = answers.heading layer.Task o
+heading (bad n p) = Err (faulty n p)
+heading (good e j) = Ok e

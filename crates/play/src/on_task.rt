@@ -1,8 +1,8 @@
 // Playing a list of calls on a task.
 ghost use Rattle.std.specs.Prelude.{◌≡◌, ℕ, ◌<◌, ◌≤◌, true, false, List, length, take, drop, Some};
 ghost use Rattle.adl.specs.Held.{tree_of};
-ghost use Rattle.protocol.specs.Machines.{Turn, unbegun, running, turn_from, after, answers as AnswersOf};
-ghost use Rattle.protocol.specs.TaskCalls.{task_machine};
+ghost use Rattle.protocol.specs.Machines.{Turn, unbegun};
+ghost use Rattle.play.specs.Plays.{running, turn_from, after, answers as AnswersOf};
 ghost use Rattle.play.specs.TaskRuns.{steps_of, is_of};
 
 use adl::Task;
@@ -20,7 +20,7 @@ fn begin_again<'t, 'a, S: Store>(
     ensures size { S.extent store.new ≡ S.extent store.old }
     ensures task { result.0.task.now ≡ task.now }
     ensures turn { (im : List ℕ) → record { steps = Some result.0.steps; set = S.facts store.new; image = im; answer = result.1 }
-        ≡ running (task_machine (tree_of task.now) (S.extent store.old)) run.entry.steps (S.facts store.old) im Call.Begin }
+        ≡ running (tree_of task.now) (S.extent store.old) run.entry.steps (S.facts store.old) im Call.Begin }
 {
     match TaskRun::begin(task, store) {
         Ok(begun) => {
@@ -43,7 +43,7 @@ fn call_running<'t, 'a, S: Store>(
     ensures size { S.extent store.new ≡ S.extent store.old }
     ensures task { is_of task.now result.0 }
     ensures turn { record { steps = steps_of result.0; set = S.facts store.new; image = image.new; answer = result.1 }
-        ≡ running (task_machine (tree_of task.now) (S.extent store.old)) run.entry.steps (S.facts store.old) image.old call.entry }
+        ≡ running (tree_of task.now) (S.extent store.old) run.entry.steps (S.facts store.old) image.old call.entry }
 {
     match call {
         Call::Begin => {
@@ -78,7 +78,7 @@ fn call_any<'t, 'a, S: Store>(
     ensures size { S.extent store.new ≡ S.extent store.old }
     ensures task { is_of task.now result.0 }
     ensures turn { record { steps = steps_of result.0; set = S.facts store.new; image = image.new; answer = result.1 }
-        ≡ turn_from (task_machine (tree_of task.now) (S.extent store.old)) (steps_of run.entry) (S.facts store.old) image.old call.entry }
+        ≡ turn_from (tree_of task.now) (S.extent store.old) (steps_of run.entry) (S.facts store.old) image.old call.entry }
 {
     match run {
         Some(run) => call_running(task, run, store, image, call),
@@ -111,10 +111,10 @@ pub fn play<S: Store>(
     ensures size { S.extent store.new ≡ S.extent store.old }
     ensures short { length answers.old < length calls.now → (result ≡ false) × (answers.new ≡ answers.old) × (image.new ≡ image.old) × (store.new ≡ store.old) }
     ensures long { length calls.now ≤ length answers.old → result ≡ true }
-    ensures answered { result ≡ true → take (length calls.now) answers.new ≡ AnswersOf (task_machine (tree_of task.now) (S.extent store.old)) (unbegun (S.facts store.old) image.old) calls.now }
+    ensures answered { result ≡ true → take (length calls.now) answers.new ≡ AnswersOf (tree_of task.now) (S.extent store.old) (unbegun (S.facts store.old) image.old) calls.now }
     ensures rest { result ≡ true → drop (length calls.now) answers.new ≡ drop (length calls.now) answers.old }
-    ensures set { result ≡ true → S.facts store.new ≡ (after (task_machine (tree_of task.now) (S.extent store.old)) (unbegun (S.facts store.old) image.old) calls.now).set }
-    ensures image { result ≡ true → image.new ≡ (after (task_machine (tree_of task.now) (S.extent store.old)) (unbegun (S.facts store.old) image.old) calls.now).image }
+    ensures set { result ≡ true → S.facts store.new ≡ (after (tree_of task.now) (S.extent store.old) (unbegun (S.facts store.old) image.old) calls.now).set }
+    ensures image { result ≡ true → image.new ≡ (after (tree_of task.now) (S.extent store.old) (unbegun (S.facts store.old) image.old) calls.now).image }
 {
     if answers.len() < calls.len() {
         return false;
