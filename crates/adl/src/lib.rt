@@ -1,13 +1,15 @@
 // Planning tasks in ADL: their tables, and loading them.
+#![tactic(auto)]
+
 pub mod around;
 mod check;
 mod declare;
 mod head;
 pub mod sizes;
-pub mod task_table;
 pub mod task;
+pub mod task_table;
 
 pub use check::arity;
 pub use sizes::Sizes;
-pub use task_table::TaskTable;
 pub use task::Task;
+pub use task_table::TaskTable;

@@ -5,7 +5,6 @@ use Rattle.table.specs.declared.places.Place.TheVariants as place
 use Rattle.table.specs.Permits.{permitted}
 use Rattle.table.specs.Reading.{Entry, Out, bad, good, then, unless, series, many}
 use Rattle.model.specs.Meaning.{object_of}
-use Rattle.model.specs.Trees as tree
 use Rattle.model.specs.Trees.{Formula, Consequent, Effect, constant, atom, equal, negation, junction, implication, quantifier, outcome, outcomes, change, conjunction, for_each, when}
 use Rattle.adl.specs.Tables.{Table, Around, entry_at, within_bounds, in_range, most_entries, outermost, deeper, head}
 use Rattle.adl.specs.Reads.{term_of, term, terms, junction_of, formulas_of, consequents_of, effects_of, formula_by, formula, changed_atom, change_by, consequent_by, consequent, effect_by, effect, type_set, with_atoms, predicate, fact, parameter, operator}

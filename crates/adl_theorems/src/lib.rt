@@ -1,4 +1,6 @@
 // Theorems on loading: each function's contract names one.
+#![tactic(auto)]
+
 ghost use Rattle.adl_theorems.specs.Theorems.{WhatIsWrittenLoads, WhatLoadsWasWritten, RecordsHoldWellFormedTasks};
 
 pub fn what_is_written_loads() -> u8

@@ -1,5 +1,5 @@
 -- The first entry of what is read.
-use Rattle.std.proofs.Common.{◌≡◌, ℕ, ◌+◌, Bool, true, false, ltb, get_or, Ok, sym, ap, ◌∙◌, arith}
+use Rattle.std.proofs.Common.{◌≡◌, ℕ, ◌+◌, Bool, true, false, ltb, get_or, Ok, sym, ap, arith}
 use Rattle.table.specs.declared.places.Place.{Place}
 use Rattle.table.specs.Permits.{permitted}
 use Rattle.table.specs.Reading.{Entry, Out, good, then, unless}

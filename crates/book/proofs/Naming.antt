@@ -1,5 +1,5 @@
 -- Objects, the order of names, and actions one after the other.
-use Rattle.std.proofs.Common.{◌≡◌, ℕ, zero, suc, ◌+◌, ◌-◌, ◌<◌, ◌≤◌, Bool, true, false, cond, ◌&&◌, eqb, ltb, List, [], ◌∷◌, length, get_or, take, drop, Ok, Err, sym, refl, ap, ◌∙◌, ⊎_elim, arith, ltb-true, le-ltb, lt-ltb, eq-eqb, ne_eqb}
+use Rattle.std.proofs.Common.{◌≡◌, ℕ, zero, suc, ◌+◌, ◌-◌, ◌<◌, ◌≤◌, Bool, true, false, cond, eqb, ltb, List, [], ◌∷◌, length, get_or, take, drop, Ok, Err, sym, refl, ap, ◌∙◌, ⊎_elim, arith, ltb-true, le-ltb, lt-ltb, eq-eqb, ne_eqb}
 use Rattle.std.specs.List.{between}
 use Rattle.std.proofs.lemmas.List.{drop_more, drop_all}
 use Rattle.std.proofs.lemmas.Bool.{and_from, and_left, and_right, and_parts, cases_lt}
@@ -11,8 +11,7 @@ use Rattle.table.specs.Reading.{Entry, Out, bad, good, then, unless, series}
 use Rattle.table.proofs.Answering.{refused, read_well, handed_on, step_goes, series_refused, series_turn}
 use Rattle.table.proofs.Reading.{bad_is_not_good}
 use Rattle.model.specs.Trees.{Name}
-use Rattle.model.specs.Settling.{Ground}
-use Rattle.model.specs.Books.{Clause, Action}
+use Rattle.model.specs.Books.{Action}
 use Rattle.book.specs.Tables.{Table, entry_at, most_levels, most_names, most_objects, head}
 use Rattle.book.specs.Reads.{ground, effect, is_object, objects, precedes, listed, name, action, after_action}
 use Rattle.book.specs.Named.{name_in}

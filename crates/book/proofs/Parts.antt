@@ -1,5 +1,5 @@
 -- Formulas and effects: what follows the first entry.
-use Rattle.std.proofs.Common.{◌≡◌, ℕ, zero, suc, ◌+◌, ◌-◌, ◌<◌, true, false, ltb, ◌⊎◌, List, Ok, Err, Result, sym, ap, ◌∙◌, ⊎_elim, arith, le-ltb, lt-ltb}
+use Rattle.std.proofs.Common.{◌≡◌, ℕ, zero, suc, ◌+◌, ◌-◌, ◌<◌, ltb, ◌⊎◌, List, Ok, Err, Result, sym, ap, ◌∙◌, ⊎_elim, arith, le-ltb, lt-ltb}
 use Rattle.fault.specs.declared.Fault.{Fault}
 use Rattle.fault.specs.declared.Layer.TheVariants as layer
 use Rattle.fault.specs.Faults.{refusal}
@@ -12,11 +12,11 @@ use Rattle.table.proofs.Answering.{refused, head_refused, handed_on, step_goes}
 use Rattle.table.proofs.Codes.{apart}
 use Rattle.model.specs.Meaning.{Literal}
 use Rattle.model.specs.Settling.{Ground, negated, group}
-use Rattle.model.specs.Books.{Clause, plain, when}
+use Rattle.model.specs.Books.{plain, when}
 use Rattle.book.specs.Tables.{Table, head}
 use Rattle.book.specs.Reads.{junction_of, grounds_of, ground_by, ground, literal_by, literal, literals, clause_by, clause}
 use Rattle.book.specs.Views.{answer, heading}
-use Rattle.book.proofs.Heading.{headed, head_goes}
+use Rattle.book.proofs.Heading.{head_goes}
 
 -- Formulas.
 pub ground_refused : (t : Table) (levels i : ℕ) (f : Fault) → Err f ≡ heading (head t place.Ground levels i) → Err f ≡ answer (ground t levels i)

@@ -3,8 +3,8 @@ ghost use Rattle.std.specs.Prelude.{◌≡◌, ◌+◌, ◌-◌};
 ghost use Rattle.book.specs.Reads.{ground};
 ghost use Rattle.book.specs.Views.{table as table_in, answer};
 
-use crate::head::head_at;
 use crate::book_table::BookTable;
+use crate::head::head_at;
 use fault::Fault;
 use table::{Kind, Place};
 

@@ -3,9 +3,9 @@ ghost use Rattle.std.specs.Prelude.{◌≡◌, ◌+◌, ◌-◌, ◌≤◌};
 ghost use Rattle.book.specs.Reads.{literal_by, literal, literals, clause, effect};
 ghost use Rattle.book.specs.Views.{table as table_in, answer, coded};
 
+use crate::book_table::BookTable;
 use crate::check::check_ground;
 use crate::head::{Head, head_at, refuse};
-use crate::book_table::BookTable;
 use fault::{Cause, Fault};
 use table::{Kind, Place};
 

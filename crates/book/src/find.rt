@@ -5,10 +5,10 @@ ghost use Rattle.book.specs.Reads.{precedes as comes_before, listed};
 ghost use Rattle.book.specs.Named.{name_in, SomeAction, name_end, SomeBody, body_end};
 ghost use Rattle.book.specs.Views.{table as table_in};
 
+use crate::book_table::BookTable;
 use crate::check::check_ground;
 use crate::effects::check_effect;
 use crate::names::{check_objects, precedes};
-use crate::book_table::BookTable;
 use protocol::Name;
 
 // Whether the name `a` comes before the name `b`.

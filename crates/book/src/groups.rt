@@ -5,8 +5,8 @@ ghost use Rattle.book.specs.Reads.{starts_in, always_in};
 ghost use Rattle.book.specs.Groups.{Rises, rising_entry};
 ghost use Rattle.book.specs.Views.{table as table_in, answer, all_coded, heading};
 
-use crate::head::{Head, head_at, refuse};
 use crate::book_table::BookTable;
+use crate::head::{Head, head_at, refuse};
 use fault::{Cause, Fault};
 use table::Place;
 

@@ -1,5 +1,8 @@
 // Books of ground actions: their tables, opening them, and finding an action by its name.
+#![tactic(auto)]
+
 pub mod book;
+pub mod book_table;
 mod check;
 mod effects;
 mod find;
@@ -8,8 +11,7 @@ pub mod head;
 mod names;
 mod opening;
 pub mod sizes;
-pub mod book_table;
 
 pub use book::Book;
-pub use sizes::Sizes;
 pub use book_table::BookTable;
+pub use sizes::Sizes;

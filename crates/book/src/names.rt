@@ -6,10 +6,10 @@ ghost use Rattle.book.specs.Reads.{objects, precedes as comes_before, name, acti
 ghost use Rattle.book.specs.Named.{name_in};
 ghost use Rattle.book.specs.Views.{table as table_in, answer};
 
+use crate::book_table::BookTable;
 use crate::check::check_ground;
 use crate::effects::check_effect;
 use crate::head::{head_at, refuse};
-use crate::book_table::BookTable;
 use fault::{Cause, Fault};
 use table::{Kind, Place};
 

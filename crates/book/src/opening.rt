@@ -7,12 +7,12 @@ ghost use Rattle.book.specs.Opens.{sizes_fit, lengths_fit};
 ghost use Rattle.book.specs.Records.{answered, Placed};
 ghost use Rattle.book.specs.Views.{table as table_in};
 
+use crate::book_table::BookTable;
 use crate::check::check_ground;
 use crate::groups::{check_always, check_relevant};
 use crate::head::refuse;
 use crate::names::check_actions;
 use crate::sizes::Sizes;
-use crate::book_table::BookTable;
 use fault::{Cause, Fault};
 
 // The sizes, first to last.

@@ -1,4 +1,6 @@
 // Refusals: the cause, the layer that refused, and a place.
+#![tactic(auto)]
+
 ghost use Rattle.std.specs.Prelude.{◌≡◌, Some};
 ghost use Rattle.fault.specs.Faults.{number_of, cause_of};
 ghost use Rattle.fault.specs.Texts.{layer_text, fault_text};

@@ -1,8 +1,8 @@
 -- What is true after a step.
-use Rattle.std.proofs.Common.{◌≡◌, ℕ, Bool, true, false, cond, not, ◌&&◌, ◌||◌, eqb, ◌⊎◌, List, [], sym, refl, subst, ap₂, inl, inr, ⊎_elim, arith}
+use Rattle.std.proofs.Common.{◌≡◌, ℕ, Bool, true, false, cond, not, ◌&&◌, eqb, ◌⊎◌, List, [], sym, refl, subst, ap₂, inl, inr, ⊎_elim, arith}
 use mathlib.Core.Bool.{beq}
 use Rattle.std.proofs.lemmas.Bool.{eqb-true, eq-eqb, and_parts, and_from, or_cases, or_left, or_right}
-use Rattle.model.specs.Lists.{In, any_of}
+use Rattle.model.specs.Lists.{In}
 use Rattle.model.specs.Trees.{Task, Name}
 use Rattle.model.specs.Meaning.{State, Literal, Part, value, literals_where, changes, effect_of, step}
 use Rattle.model.specs.Theorems.{BringsAbout, WhatAStepLeaves}

@@ -1,4 +1,6 @@
 // What the runs of tasks and of books have in common: names of steps, calls as values, and what calls answer.
+#![tactic(auto)]
+
 mod answering;
 mod calls;
 mod name;

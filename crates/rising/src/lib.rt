@@ -1,4 +1,6 @@
 // Lists that rise by a total order of their keys.
+#![tactic(auto)]
+
 pub mod key;
 pub mod literal;
 pub mod rising;

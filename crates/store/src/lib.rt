@@ -1,4 +1,6 @@
 // Stores of facts.
+#![tactic(auto)]
+
 pub mod bits;
 pub mod images;
 pub mod list;

@@ -1,4 +1,6 @@
 // Constant tables: the kinds of entries, the kinds that each place permits, and powers.
+#![tactic(auto)]
+
 pub mod entries;
 pub mod kind;
 pub mod places;

@@ -4,9 +4,9 @@ ghost use Rattle.book.specs.Opens.{given, opens, blank};
 ghost use Rattle.book.specs.Held.{held, tree_of};
 
 use super::Book;
+use crate::book_table::BookTable;
 use crate::opening::{check_entries, check_lengths, check_sizes};
 use crate::sizes::Sizes;
-use crate::book_table::BookTable;
 use fault::Fault;
 
 impl<'a> Book<'a> {

@@ -1,4 +1,4 @@
-use Rattle.std.proofs.Common.{◌+◌, Err, sym, ap, ◌∙◌, arith}
+use Rattle.std.proofs.Common.{Err, sym, ap, ◌∙◌, arith}
 use Rattle.std.proofs.lemmas.Result.{err_from_is_err_and}
 use Rattle.table.proofs.Answering.{made_refused}
 use Rattle.book.specs.Views.{table, coded}

@@ -1,4 +1,4 @@
-use Rattle.std.proofs.Common.{◌≡◌, length, get_or, refl, ap, ◌∙◌, arith, length-set}
+use Rattle.std.proofs.Common.{get_or, ◌∙◌, arith, length-set}
 use lib.ListN.{length-replicate}
 use Rattle.table.specs.Kinds.{code_of}
 use Rattle.table.specs.declared.kind.Kind.TheVariants.{True}

@@ -1,4 +1,4 @@
-use Rattle.std.proofs.Common.{◌≡◌, length, get_or, refl, ap, ◌∙◌, arith, length-set}
+use Rattle.std.proofs.Common.{get_or, refl, ◌∙◌, arith, length-set}
 use lib.ListN.{length-replicate}
 use Rattle.table.specs.declared.kind.Kind.TheVariants.{True}
 use Rattle.table.proofs.Filling.{one_more_filled}
