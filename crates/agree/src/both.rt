@@ -10,8 +10,8 @@ ghost use Rattle.agree.specs.Sides.{MadeFrom, Played, AnswersAgree};
 
 use adl::Task;
 use book::Book;
+use play::{play, play_book};
 use protocol::{Answer, Call};
-use play::{play_book, play};
 use store::Store;
 
 // Plays the calls one after the other on a task and on a book, each over its own store and image, and writes what each answers;

@@ -1,6 +1,5 @@
 -- The run of a task and the run of its book, beside each other: every list of calls is answered alike, and as the subject says.
 use Rattle.std.specs.Prelude.{◌≡◌, ℕ, ◌<◌, ◌≤◌, Bool, true, false, cond, List, [], ◌∷◌, ◌++◌, map, length, Ok, ◌==◌, nat_lt}
-use Rattle.fault.specs.declared.Fault.{Fault}
 use Rattle.fault.specs.declared.Layer.TheVariants.{Run}
 use Rattle.fault.specs.Faults.{number_of, refusal}
 use Rattle.model.specs.Lists.{has}

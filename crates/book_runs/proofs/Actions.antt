@@ -1,5 +1,5 @@
 -- The action with a name, where it stands in the table of an opened book.
-use Rattle.std.proofs.Common.{◌≡◌, ℕ, ◌+◌, ◌-◌, ◌<◌, Bool, true, false, cond, ltb, List, [], ◌∷◌, length, get_or, Some, None, Option, sym, refl, ap, ◌∙◌, arith}
+use Rattle.std.proofs.Common.{◌≡◌, ℕ, ◌+◌, ◌-◌, ◌<◌, true, false, cond, ltb, List, [], ◌∷◌, get_or, Some, None, sym, refl, ap, ◌∙◌, arith}
 use mathlib.Core.Option.{some}
 use mathlib.Core.Option as tree
 use Rattle.std.proofs.lemmas.Bool.{lt-ltb, cond-true}
@@ -12,7 +12,7 @@ use Rattle.model.specs.Trees.{Name}
 use Rattle.model.specs.Meaning.{State}
 use Rattle.model.specs.Settling.{Ground, known}
 use Rattle.model.specs.Books.{Clause, Action, find, action_literals}
-use Rattle.book.specs.Tables.{Table, entry_at, most_levels, most_objects, head}
+use Rattle.book.specs.Tables.{Table, entry_at, most_levels, most_objects}
 use Rattle.book.specs.Reads.{ground, effect, objects, precedes, name, action}
 use Rattle.book.specs.Finds.{number_from, action_place}
 use Rattle.book.specs.Held.{held, tree_of}

@@ -1,20 +1,18 @@
 -- What an action's effect at a place of a book's table is, and what puts of its literals leave.
-use Rattle.std.proofs.Common.{◌≡◌, ℕ, zero, suc, ◌+◌, ◌-◌, ◌<◌, ◌≤◌, Bool, true, false, cond, not, ◌&&◌, ◌||◌, eqb, ltb, ◌⊎◌, List, [], ◌∷◌, ◌++◌, get_or, sym, refl, ap, ◌∙◌, subst, inl, inr, ⊎_elim, arith}
-use mathlib.Core.Bool.{beq}
-use Rattle.std.proofs.lemmas.Bool.{eqb-true, or_cases, cond-true, cond-false}
+use Rattle.std.proofs.Common.{◌≡◌, ℕ, ◌+◌, ◌<◌, ◌≤◌, Bool, true, false, cond, eqb, List, [], ◌∷◌, get_or, sym, refl, ap, ◌∙◌, arith}
+use Rattle.std.proofs.lemmas.Bool.{cond-true, cond-false}
 use Rattle.table.specs.declared.places.Place.TheVariants as place
 use Rattle.table.specs.Answers.{is_good}
-use Rattle.table.specs.Reading.{Entry, entry, Out, bad, good, then, unless, many, next_place}
+use Rattle.table.specs.Reading.{Entry, Out, bad, good, then, many, next_place}
 use Rattle.model.specs.Meaning.{State, Literal}
 use Rattle.model.specs.Settling.{Ground, ground_value}
 use Rattle.model.specs.Books.{Clause, plain, when, clause_literals, action_literals}
 use Rattle.book.specs.Tables.{Table, entry_at, head}
-use Rattle.book.specs.Reads.{ground, literal_by, literal, literals, clause_by, clause, effect}
-use Rattle.store.specs.Sets.{after_put}
-use Rattle.protocol.specs.Steps.{put_literals, put_step}
+use Rattle.book.specs.Reads.{ground, literal_by, literal, literals, clause_by, clause}
+use Rattle.protocol.specs.Steps.{put_literals}
 use Rattle.protocol.proofs.Puts.{put_append}
 use Rattle.book_runs.specs.Standing.{value_in, items_in, literals_in, literal_at, literal_end}
-use Rattle.book_runs.proofs.Reading.{not_good, passed, Headed, headed, goes, first_good, First}
+use Rattle.book_runs.proofs.Reading.{not_good, goes, First}
 
 -- Literals.
 

@@ -1,12 +1,11 @@
 -- A step over an image that a copy has filled.
-use Rattle.std.proofs.Common.{◌≡◌, ℕ, ◌+◌, ◌<◌, ◌≤◌, Bool, true, false, cond, ltb, List, ◌++◌, map, length, drop, Ok, Err, Result, sym, refl, ap, ◌∙◌, arith, length-append}
-use mathlib.Core.Option.{Option}
+use Rattle.std.proofs.Common.{◌≡◌, ℕ, ◌+◌, ◌<◌, ◌≤◌, true, false, cond, ltb, List, map, length, drop, Ok, sym, ap, ◌∙◌, arith, length-append}
 use Rattle.std.specs.List.{range_with_len}
 use Rattle.std.proofs.lemmas.List.FromFn.{length-map-range_with_len}
 use Rattle.std.proofs.lemmas.Bool.{cond-true, cond-false, lt-ltb}
 use Rattle.model.specs.Trees.{Name}
 use Rattle.model.specs.Meaning.{State}
-use Rattle.model.specs.Books.{Action, Book, find}
+use Rattle.model.specs.Books.{Book, find}
 use Rattle.store.specs.Sets.{pictured, after_copy, copied}
 use Rattle.protocol.specs.Shown.{shown}
 use Rattle.protocol.specs.Steps.{put_step}

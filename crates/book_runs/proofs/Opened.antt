@@ -1,5 +1,5 @@
 -- What an opened book's record gives: where its goal and its actions stand.
-use Rattle.std.proofs.Common.{◌≡◌, ℕ, ◌+◌, ◌<◌, ◌≤◌, true, false, eqb, map, length, get_or, sym, ap, ◌∙◌, arith}
+use Rattle.std.proofs.Common.{◌≡◌, ℕ, ◌<◌, true, eqb, get_or, ap, arith}
 use Rattle.table.specs.Answers.{is_good}
 use Rattle.table.specs.Reading.{Out}
 use Rattle.model.specs.Settling.{Ground}

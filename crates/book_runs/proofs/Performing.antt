@@ -1,24 +1,23 @@
 -- A goal and a step by the image that a call fills and by its puts are the goal and the step of the definitions.
-use Rattle.std.proofs.Common.{◌≡◌, ℕ, zero, suc, ◌+◌, ◌<◌, ◌≤◌, Bool, true, false, cond, not, eqb, ltb, ◌⊎◌, List, [], ◌∷◌, ◌++◌, map, length, Ok, sym, refl, ap, ◌∙◌, subst, ap₂, inl, inr, ⊎_elim, arith}
-use mathlib.Core.Option.{Option, some, none}
+use Rattle.std.proofs.Common.{◌≡◌, ℕ, ◌+◌, ◌<◌, ◌≤◌, Bool, true, false, cond, not, ltb, List, [], ◌∷◌, ◌++◌, length, Ok, sym, refl, ap, ◌∙◌, subst, ap₂, inl, inr, ⊎_elim, arith}
+use mathlib.Core.Option.{some}
 use Rattle.std.proofs.lemmas.Bool.{ltb-false}
 use Rattle.model.specs.Trees.{Junction, Name}
 use Rattle.model.specs.Forming.{Each}
 use Rattle.model.specs.Lists.{In}
 use Rattle.model.specs.Meaning.{State, Literal, join, changed}
 use Rattle.model.specs.Settling.{Ground, known, fact, negated, group, Grounds, nil, cons, ground_value, ground_values}
-use Rattle.model.specs.Books.{Clause, plain, when, Action, Book, clause_literals, action_literals, act, same_name, find}
-use Rattle.model.specs.Opening.{KnownGround, KnownGrounds, KnownLiterals, KnownClause, KnownAction, WellFormedBook}
+use Rattle.model.specs.Books.{Clause, plain, when, Action, Book, clause_literals, action_literals, same_name, find}
+use Rattle.model.specs.Opening.{KnownGround, KnownGrounds, KnownClause, KnownAction, WellFormedBook}
 use Rattle.model.proofs.Members.{in_append, each_in}
 use Rattle.store.specs.Sets.{pictured}
 use Rattle.protocol.specs.Shown.{shown}
-use Rattle.protocol.specs.Steps.{put_step}
-use Rattle.protocol.specs.Machines.{refused, Performed}
+use Rattle.protocol.specs.Machines.{refused}
 use Rattle.protocol.proofs.Images.{image_shows}
 use Rattle.protocol.proofs.Puts.{put_step_is}
 use Rattle.protocol.proofs.Tests.{if_passed, unless_passed}
 use Rattle.protocol.specs.BookCalls.{facts, book_goal, book_act, book_perform}
-use Rattle.book_runs.specs.Runs.{goal_by_image, is_taken, literals_taken, act_by_puts, perform_by_puts}
+use Rattle.book_runs.specs.Runs.{goal_by_image, act_by_puts, perform_by_puts}
 
 -- states that agree on the first r facts judge formulas on those facts alike
 module _ (r : ℕ) (s s' : State) (alike : (k : ℕ) → k < r → s k ≡ s' k) where

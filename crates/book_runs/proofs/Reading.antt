@@ -1,12 +1,10 @@
 -- Readings that went well, from their first entry on.
-use Rattle.std.proofs.Common.{◌≡◌, ℕ, zero, suc, ◌+◌, ◌-◌, ◌<◌, Bool, true, false, cond, not, ◌&&◌, ◌||◌, eqb, ltb, List, [], ◌∷◌, get_or, sym, refl, ap, ◌∙◌, subst, arith}
-use mathlib.Core.Bool.{beq}
+use Rattle.std.proofs.Common.{◌≡◌, ℕ, suc, ◌+◌, ◌<◌, Bool, true, false, ltb, List, [], ◌∷◌, get_or, sym, refl, ap, ◌∙◌, subst, arith}
 use Rattle.std.proofs.lemmas.Bool.{ltb-true}
 use Rattle.table.specs.declared.places.Place.{Place}
-use Rattle.table.specs.declared.places.Place.TheVariants as place
 use Rattle.table.specs.Permits.{permitted}
 use Rattle.table.specs.Answers.{is_good}
-use Rattle.table.specs.Reading.{Entry, entry, Out, bad, good, then, unless, many, next_place}
+use Rattle.table.specs.Reading.{Entry, Out, bad, good, then, unless, many, next_place}
 use Rattle.book.specs.Tables.{Table, entry_at, in_range, head}
 use Rattle.book_runs.specs.Standing.{items_in}
 

@@ -1,18 +1,15 @@
 -- What stands at a place of a book's table, by the kind that the table has there.
-use Rattle.std.proofs.Common.{◌≡◌, ℕ, zero, suc, ◌+◌, ◌-◌, ◌<◌, ◌≤◌, Bool, true, false, cond, not, ◌&&◌, ◌||◌, eqb, ltb, ◌⊎◌, List, [], ◌∷◌, get_or, sym, refl, ap, ◌∙◌, subst, inl, inr, ⊎_elim, arith}
+use Rattle.std.proofs.Common.{◌≡◌, ℕ, zero, suc, ◌+◌, ◌-◌, ◌<◌, Bool, true, false, not, ◌⊎◌, List, get_or, sym, refl, ap, ◌∙◌, inl, inr, ⊎_elim, arith}
 use mathlib.Core.Bool.{beq}
 use Rattle.std.proofs.lemmas.Bool.{ltb-true, eqb-true, or_cases}
-use Rattle.table.specs.declared.places.Place.{Place}
 use Rattle.table.specs.declared.places.Place.TheVariants as place
-use Rattle.table.specs.Permits.{permitted}
 use Rattle.table.specs.Answers.{is_good}
-use Rattle.table.specs.Reading.{Entry, entry, Out, bad, good, then, unless, many, next_place}
-use Rattle.model.specs.Trees.{all, any}
+use Rattle.table.specs.Reading.{entry, Out, bad, good, then, many, next_place}
 use Rattle.model.specs.Meaning.{State, join}
 use Rattle.model.specs.Settling.{Ground, known, fact, negated, group, ground_value, ground_values}
-use Rattle.book.specs.Tables.{Table, entry_at, in_range, head}
+use Rattle.book.specs.Tables.{Table, entry_at, in_range}
 use Rattle.book.specs.Reads.{grounds_of, ground_by, ground}
-use Rattle.book_runs.specs.Standing.{junction_for, value_in, items_in, values_in}
+use Rattle.book_runs.specs.Standing.{junction_for, value_in, values_in}
 use Rattle.table.specs.Kinds.{code_of}
 use Rattle.table.specs.declared.kind.Kind.{Kind}
 use Rattle.table.specs.declared.kind.Kind.TheVariants.{True, Fact, Not, And, Or}

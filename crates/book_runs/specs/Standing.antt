@@ -1,5 +1,5 @@
 -- What a reading at a place of a book's table comes to.
-use Rattle.std.specs.Prelude.{ℕ, ◌+◌, Bool, true, false, cond, List, [], ◌∷◌, ◌==◌, slice_index}
+use Rattle.std.specs.Prelude.{ℕ, ◌+◌, Bool, true, false, cond, List, [], ◌==◌, slice_index}
 use Rattle.table.specs.Reading.{Out, bad, good}
 use Rattle.model.specs.Trees.{Junction, all, any}
 use Rattle.model.specs.Meaning.{State, Literal}

@@ -1,4 +1,6 @@
 // Runs of books: judging ground formulas, taking steps, the calls of a run.
+#![tactic(auto)]
+
 mod action;
 mod entries;
 mod goal;

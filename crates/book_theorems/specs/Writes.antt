@@ -1,5 +1,5 @@
 -- Books written out as the entries of a table.
-use Rattle.std.specs.Prelude.{◌≡◌, ℕ, suc, ◌≤◌, Bool, cond, List, [], ◌∷◌, ◌++◌, map, length}
+use Rattle.std.specs.Prelude.{◌≡◌, ℕ, suc, ◌≤◌, cond, List, [], ◌∷◌, ◌++◌, map, length}
 use Rattle.table.specs.Reading.{Entry, entry}
 use Rattle.model.specs.Lists.{below, gather}
 use Rattle.model.specs.Forming.{Each}

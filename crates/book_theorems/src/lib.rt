@@ -1,4 +1,6 @@
 // Theorems on opening books: each function's contract names one.
+#![tactic(auto)]
+
 ghost use Rattle.book_theorems.specs.Theorems.{WhatIsWrittenOpens, WhatOpensWasWritten, RecordsHoldWellFormedBooks};
 
 pub fn what_is_written_opens() -> u8

@@ -1,4 +1,6 @@
 // Loads a small task with one thing damaged at a time, and prints what each meets.
+#![tactic(auto)]
+
 mod cases;
 
 use adl::{Sizes, Task};

@@ -1,4 +1,6 @@
 // Opens a small book with one thing damaged at a time, and prints what each meets.
+#![tactic(auto)]
+
 mod cases;
 
 use book::{Book, Sizes};

@@ -1,3 +1,5 @@
+#![tactic(auto)]
+
 // Executed cases: loading at its limits, and both stores driven through the same puts.
 #[cfg(test)]
 mod tests;

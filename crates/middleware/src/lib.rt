@@ -1,4 +1,6 @@
 // The middleware scenario as a task table: a publisher and a reader share a message of two fields, heading and track, under one mutex.
+#![tactic(auto)]
+
 mod ground_actions;
 
 use adl::Sizes;

@@ -1,4 +1,6 @@
 // Playing lists of calls, one call after the other over one store and one image.
+#![tactic(auto)]
+
 mod on_book;
 mod on_task;
 

@@ -1,5 +1,5 @@
 -- What a window holds after a list of literals.
-use Rattle.std.proofs.Common.{◌≡◌, ℕ, zero, suc, ◌+◌, ◌-◌, ◌<◌, ◌≤◌, cond, ltb, ◌⊎◌, List, [], ◌∷◌, ◌++◌, map, length, take, drop, set, fold, sym, refl, ap, ◌∙◌, subst, ⊎_elim, sub-one, arith}
+use Rattle.std.proofs.Common.{◌≡◌, ℕ, zero, suc, ◌+◌, ◌-◌, ◌<◌, ◌≤◌, cond, ltb, List, [], ◌∷◌, ◌++◌, map, length, take, drop, set, fold, sym, refl, ap, ◌∙◌, subst, ⊎_elim, sub-one, arith}
 use Rattle.std.proofs.lemmas.Bool.{cases_lt, lt-ltb, le-ltb, cond-true, cond-false}
 use Rattle.std.proofs.lemmas.List.{append-nil, append_assoc, take_more_set, length-set, length-map, map_push, drop_all, take_all, length-take-le}
 use Rattle.model.specs.Meaning.{Literal}

@@ -1,5 +1,5 @@
 -- What the calls of a task's run do: they judge in the image that they fill, and put numbers into the store one by one.
-use Rattle.std.specs.Prelude.{ℕ, ◌+◌, Bool, cond, List, [], map, length, Ok, nat_lt}
+use Rattle.std.specs.Prelude.{ℕ, ◌+◌, cond, List, [], map, length, Ok, nat_lt}
 use Rattle.model.specs.Meaning.{State, value, fits, precondition_of, effect_of, literals_where}
 use Rattle.model.specs.Runs.{limit}
 use Rattle.model.specs.Trees.{Task, Name, atoms, number}

@@ -1,4 +1,6 @@
 // Runs of planning tasks: judging formulas, taking steps, the calls of a run.
+#![tactic(auto)]
+
 mod facts;
 mod fitting;
 mod goal;
@@ -13,4 +15,5 @@ mod step;
 mod walk;
 mod window;
 
+pub use protocol::{Answer, Call, Name};
 pub use run::TaskRun;

@@ -1,10 +1,12 @@
 // Plays lists of calls on small tasks, and prints what each call answers.
+#![tactic(auto)]
+
 mod cases;
 
 use adl::Task;
-use protocol::Answer;
 use cases::{CASES, Case};
 use play::play;
+use protocol::Answer;
 use std::io;
 use store::Bits;
 

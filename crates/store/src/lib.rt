@@ -11,4 +11,5 @@ pub use bits::Bits;
 pub use images::{copy, room_for};
 pub use list::ListStore;
 pub use puts::put_all;
+pub use rising::{Full, Key, Literal, Rising};
 pub use store::Store;

@@ -13,8 +13,8 @@ use crate::action::perform_action;
 use crate::goal::judge_goal;
 use crate::starts::put_starts;
 use book::Book;
-use protocol::Name;
 use fault::{Cause, Fault, Layer};
+use protocol::Name;
 use store::{Store, copy};
 
 fn refuse(cause: Cause, place: u64) -> Fault

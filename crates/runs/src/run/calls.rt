@@ -13,8 +13,8 @@ use crate::facts::put_facts;
 use crate::fitting::fits;
 use crate::goal::{is_applicable, judge_goal, put_changes};
 use adl::Task;
-use protocol::Name;
 use fault::{Cause, Fault, Layer};
+use protocol::Name;
 use store::{Store, copy, room_for};
 
 fn refuse(cause: Cause, place: u64) -> Fault

@@ -10,10 +10,10 @@ returns-then-on_task-clause-agree g c played made room order =
     let s = g.S.Store in
     let r = g.R.Store in
     agreed (task_of t) (book_of c.args.book.now)
-        (s.extent c.args.task_store.now) (r.extent c.args.book_store.now)
-        (s.facts c.args.task_store.now) (r.facts c.args.book_store.now)
-        c.args.task_image.now c.args.book_image.now c.args.calls.now
-        c.play-on_task.new.answers c.play_book-on_book.new.answers
-        (loaded_tasks_are_well_formed (held t) t.formed) made room order
-        (c.play-on_task.ensures.answered c.if-on_task.true)
-        (c.play_book-on_book.ensures.answered played)
+    (s.extent c.args.task_store.now) (r.extent c.args.book_store.now)
+    (s.facts c.args.task_store.now) (r.facts c.args.book_store.now)
+    c.args.task_image.now c.args.book_image.now c.args.calls.now
+    c.play-on_task.new.answers c.play_book-on_book.new.answers
+    (loaded_tasks_are_well_formed (held t) t.formed) made room order
+    (c.play-on_task.ensures.answered c.if-on_task.true)
+    (c.play_book-on_book.ensures.answered played)

@@ -1,4 +1,4 @@
-use Rattle.std.proofs.Common.{◌≡◌, cond, List, sym, refl, ap, ◌∙◌, arith}
+use Rattle.std.proofs.Common.{cond, List, sym, refl, ap, ◌∙◌, arith}
 use Rattle.model.specs.Meaning.{Literal}
 use Rattle.model.specs.Books.{find}
 use Rattle.book.specs.Held.{held, tree_of}

@@ -1,9 +1,9 @@
-use Rattle.std.proofs.Common.{◌≡◌, ℕ, suc, ◌+◌, ◌-◌, not, sym, ap, ◌∙◌, arith}
+use Rattle.std.proofs.Common.{◌+◌, ◌-◌, not, sym, ap, ◌∙◌, arith}
 use Rattle.book.specs.Views.{table}
 use Rattle.book.specs.Reads.{ground}
 use Rattle.protocol.specs.Shown.{shown}
-use Rattle.book_runs.proofs.Reading.{first, first_stands, none_left}
-use Rattle.book_runs.proofs.Standing.{begins, deep, known_kind, fact_known, at_true, at_fact, at_not, at_and, at_or, false_left, decided, left_to, none_decides}
+use Rattle.book_runs.proofs.Reading.{first, first_stands}
+use Rattle.book_runs.proofs.Standing.{begins, deep, known_kind, fact_known, at_true, at_fact, at_not, at_and, at_or, false_left, decided, left_to}
 use Rattle.book_runs.proofs.judge.+judge_judge_all.Goals as goal
 
 pub judge-offset_bounds-table-at : goal.judge-offset_bounds-table-at

@@ -1,7 +1,6 @@
-use Rattle.std.proofs.Common.{◌≡◌, ◌+◌, ◌-◌, true, cond, List, [], get_or}
+use Rattle.std.proofs.Common.{◌≡◌, ◌+◌, ◌-◌, true, cond, [], get_or}
 use Rattle.table.specs.Answers.{is_good}
 use Rattle.table.specs.Reading.{many, next_place}
-use Rattle.model.specs.Meaning.{Literal}
 use Rattle.book.specs.Reads.{literal}
 use Rattle.book.specs.Views.{table}
 use Rattle.protocol.specs.Steps.{put_literals}

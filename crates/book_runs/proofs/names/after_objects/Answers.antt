@@ -1,4 +1,4 @@
-use Rattle.std.proofs.Common.{◌≡◌, ◌+◌, ◌-◌, sym, ap, ◌∙◌, arith}
+use Rattle.std.proofs.Common.{◌+◌, ◌-◌, sym, ◌∙◌, arith}
 use Rattle.book.specs.Views.{table}
 use Rattle.book_runs.proofs.Objects.{object_more, objects_end, objects_over}
 use Rattle.book_runs.proofs.names.after_objects.Goals as goal

@@ -1,8 +1,8 @@
-use Rattle.std.proofs.Common.{◌≡◌, ℕ, suc, ◌+◌, ◌-◌, sym, ap, ◌∙◌, arith}
+use Rattle.std.proofs.Common.{◌+◌, ◌-◌, sym, ◌∙◌, arith}
 use Rattle.book.specs.Views.{table}
 use Rattle.book.specs.Reads.{ground}
 use Rattle.store.specs.Sets.{none}
-use Rattle.book_runs.proofs.Reading.{first, first_stands, none_left}
+use Rattle.book_runs.proofs.Reading.{first, first_stands}
 use Rattle.book_runs.proofs.Standing.{begins, deep, known_kind, at_not, listed, alone}
 use Rattle.book_runs.proofs.skip.+skip_skip_all.Goals as goal
 

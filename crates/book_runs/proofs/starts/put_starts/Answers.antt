@@ -1,4 +1,4 @@
-use Rattle.std.proofs.Common.{◌≡◌, ℕ, ◌+◌, sym, refl, ap, ◌∙◌, arith}
+use Rattle.std.proofs.Common.{◌≡◌, ℕ, sym, refl, ap, ◌∙◌, arith}
 use Rattle.model.specs.Books.{first_facts}
 use Rattle.model.specs.Lists.{below, keep}
 use Rattle.book.specs.Held.{tree_of}

@@ -1,7 +1,6 @@
-use Rattle.std.proofs.Common.{◌≡◌, ℕ, ◌+◌, Bool, true, cond, List, [], sym, ap, ◌∙◌}
+use Rattle.std.proofs.Common.{ℕ, sym, ap, ◌∙◌}
 use Rattle.table.specs.Answers.{is_good}
 use Rattle.book.specs.Reads.{literals}
-use Rattle.model.specs.Meaning.{Literal}
 use Rattle.book.specs.Views.{table}
 use Rattle.protocol.specs.Shown.{shown}
 use Rattle.book_runs.proofs.Effects.{when_stands, when_puts}

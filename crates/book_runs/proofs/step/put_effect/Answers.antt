@@ -1,4 +1,4 @@
-use Rattle.std.proofs.Common.{◌≡◌, ◌+◌, ◌-◌, get_or, sym, ap, ◌∙◌, arith}
+use Rattle.std.proofs.Common.{◌+◌, ◌-◌, get_or, ◌∙◌, arith}
 use Rattle.table.specs.Reading.{many}
 use Rattle.book.specs.Views.{table}
 use Rattle.book.specs.Reads.{clause}

@@ -1,4 +1,4 @@
-use Rattle.std.proofs.Common.{◌+◌, ◌-◌, length, ap, ◌∙◌, arith, rules, ltb-false}
+use Rattle.std.proofs.Common.{◌+◌, length, ap, ◌∙◌, arith, rules, ltb-false}
 use Rattle.table.specs.Reading.{many}
 use Rattle.adl.specs.Held.{held, tree_of}
 use Rattle.adl.specs.Reads.{parameter}

@@ -1,6 +1,6 @@
 use Rattle.std.proofs.Common.{◌≡◌, get_or, sym, ap, ◌∙◌, ⊎_elim, get_or-take, rules}
 use Rattle.table.specs.declared.kind.Kind.TheVariants.{Object}
-use Rattle.model.specs.Trees.{Term, object}
+use Rattle.model.specs.Trees.{Term}
 use Rattle.model.specs.Meaning.{object_of}
 use Rattle.adl.specs.Held.{held}
 use Rattle.runs.specs.Shown.{bound}

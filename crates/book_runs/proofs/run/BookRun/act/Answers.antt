@@ -1,7 +1,6 @@
-use Rattle.std.proofs.Common.{◌≡◌, Err, sym, refl, ap, ◌∙◌, arith}
+use Rattle.std.proofs.Common.{Err, refl, ap, ◌∙◌, arith}
 use Rattle.fault.specs.declared.Fault.{Fault}
 use Rattle.protocol.specs.Names.{name_of}
-use Rattle.protocol.specs.Machines.{Performed}
 use Rattle.book.specs.Held.{tree_of}
 use Rattle.book_runs.proofs.Filling.{long_enough, step_taken, step_refused}
 use Rattle.book_runs.proofs.Opened.{fact_count}
