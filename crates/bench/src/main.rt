@@ -1,9 +1,11 @@
 // Measures steps per second, and the share that copying the state into the image takes.
+#![tactic(auto)]
+
 mod large;
 
 use adl::{Sizes, Task};
-use protocol::Name;
 use middleware::{LOCK, MUTEX, PUBLISHER, SIZES, TABLE, UNLOCK};
+use protocol::Name;
 use runs::TaskRun;
 use std::rt::{Clock, Env};
 use std::time::Instant;

@@ -1,4 +1,6 @@
 // Opens books with very many parts and with deep nesting, and judges their goals: the stack need not grow with the parts.
+#![tactic(auto)]
+
 use book::{Book, Sizes};
 use book_runs::BookRun;
 use fault::Fault;

@@ -1,4 +1,6 @@
 // Runs the scenario: a timeout handler sets the mutex free while the publisher still writes, and the reader shows a mixed message.
+#![tactic(auto)]
+
 mod story;
 
 use middleware::TABLE;

@@ -1,5 +1,7 @@
 // Runs the scenario on its task and on its book: a timeout handler sets the mutex free while the publisher still writes, and the reader
 // shows a mixed message.
+#![tactic(auto)]
+
 mod columns;
 mod steps;
 mod story;

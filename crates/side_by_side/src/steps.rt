@@ -1,9 +1,9 @@
 // The steps of the story, and what it asks after each.
-use protocol::Name;
 use middleware::{
     COPY, HEADING, HEADING_SHOWN, LOCK, MUTEX, MUTEX_IS_FREE, PUBLISHER, PUBLISHER_HOLDS, READER,
     READER_HOLDS, TIMEOUT, TRACK, TRACK_SHOWN, WRITE,
 };
+use protocol::Name;
 
 // A step, and how the story tells it.
 pub(crate) struct Step<'s> {
