@@ -1,5 +1,5 @@
+// Executed cases: loading at its limits, and both stores driven through the same puts.
 #![tactic(auto)]
 
-// Executed cases: loading at its limits, and both stores driven through the same puts.
 #[cfg(test)]
 mod tests;

@@ -1,14 +1,14 @@
 // The goal and the operators of a loaded task, by the places that the record keeps.
-ghost use Rattle.std.specs.Prelude.{◌≡◌, ℕ, ◌<◌, ◌≤◌, true, [], length};
+ghost use Rattle.std.specs.Prelude.{◌≡◌, ℕ, ◌<◌, ◌≤◌, true, [], length, if◌then◌else◌};
 ghost use Rattle.model.specs.Meaning.{value, fits, precondition_of, effect_of, literals_where};
 ghost use Rattle.protocol.specs.Names.{name_of};
 ghost use Rattle.protocol.specs.Shown.{shown};
 ghost use Rattle.adl.specs.Held.{tree_of};
-ghost use Rattle.protocol.specs.Steps.{put_literals};
+ghost use Rattle.protocol.specs.Steps.{put_step};
 
 use crate::judge::judge;
 use crate::sheet::Sheet;
-use crate::step::put_effect;
+use crate::step::attempt;
 use adl::Task;
 use protocol::Name;
 use store::Store;
@@ -23,41 +23,21 @@ pub(crate) fn judge_goal(task: &Task, image: &[u8]) -> bool
     value
 }
 
-// Whether the precondition of the name is true in the image.
-pub(crate) fn is_applicable(task: &Task, image: &[u8], name: Name) -> bool
-    requires image { task.now.atoms ≤ length image.now }
-    requires fits { fits (tree_of task.now) (name_of name) ≡ true }
-    ensures { result ≡ value (tree_of task.now) (shown image.now) (name_of name.entry).objects (precondition_of (tree_of task.now) (name_of name.entry)) }
-{
-    let start = task.operator_at[name.operator as usize];
-    let precondition = start + 1 + task.table.operands[start] as usize;
-    let mut sheet = Sheet::of(name.objects);
-    let (value, _) = judge(task, image, &mut sheet, precondition, name.objects.len());
-    value
-}
-
-// Puts what the step with this name adds, or what it deletes; its conditions are judged in the image.
-pub(crate) fn put_changes<S: Store>(
+// Judges the precondition of the name in the image and, if it is true, takes the step; tells whether.
+pub(crate) fn perform_operator<S: Store>(
     task: &Task,
     image: &[u8],
     name: Name,
     store: &mut S,
-    adds: bool,
-)
+) -> bool
     requires image { task.now.atoms ≤ length image.now }
     requires fits { fits (tree_of task.now) (name_of name) ≡ true }
     ensures size { S.extent store.new ≡ S.extent store.old }
-    ensures set { S.facts store.new ≡ put_literals (S.extent store.old) adds (literals_where (value (tree_of task.now) (shown image.now)) (effect_of (tree_of task.now) (name_of name.entry))) (S.facts store.old) }
+    ensures judged { result ≡ value (tree_of task.now) (shown image.now) (name_of name.entry).objects (precondition_of (tree_of task.now) (name_of name.entry)) }
+    ensures set { S.facts store.new ≡ (if result then put_step (S.extent store.old) (literals_where (value (tree_of task.now) (shown image.now)) (effect_of (tree_of task.now) (name_of name.entry))) (S.facts store.old) else S.facts store.old) }
 {
+    let start = task.operator_at[name.operator as usize];
     let effect = task.effect_at[name.operator as usize];
-    let mut sheet = Sheet::of(name.objects);
-    put_effect(
-        task,
-        image,
-        &mut sheet,
-        effect,
-        name.objects.len(),
-        store,
-        adds,
-    );
+    let precondition = start + 1 + task.table.operands[start] as usize;
+    attempt(task, image, name.objects, precondition, effect, store)
 }

@@ -1,5 +1,5 @@
 // Judging formulas over an image of the state.
-ghost use Rattle.std.specs.Prelude.{◌≡◌, ℕ, ◌+◌, ◌<◌, ◌≤◌, Bool, not, ◌||◌, List, length};
+ghost use Rattle.std.specs.Prelude.{◌≡◌, ℕ, ◌+◌, ◌<◌, ◌≤◌, Bool, List, length};
 ghost use Rattle.model.specs.Forming.{Within};
 ghost use Rattle.model.specs.Meaning.{bind, over, value, values};
 ghost use Rattle.model.specs.Trees.{Formula, members};
@@ -14,13 +14,6 @@ use crate::sheet::{Bound, Sheet};
 use crate::skip::{skip, skip_all};
 use adl::{Task, arity};
 use table::Kind;
-
-// An implication by the values of its parts.
-fn implies(first: bool, second: bool) -> bool
-    ensures { result ≡ not first || second }
-{
-    !first || second
-}
 
 // Whether the image shows the atom.
 pub(crate) fn shows(image: &[u8], atom: u32) -> bool
@@ -72,7 +65,7 @@ pub(crate) fn judge(
         Kind::Imply => {
             let (first, middle) = judge(task, image, sheet, at + 1, depth);
             let (second, next) = judge(task, image, sheet, middle, depth);
-            (implies(first, second), next)
+            (!first || second, next)
         }
         Kind::Forall => {
             let every = judge_each(task, image, sheet, at + 1, depth, operand, true);

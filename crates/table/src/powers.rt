@@ -1,5 +1,5 @@
 // Powers of small numbers.
-ghost use Rattle.std.specs.Prelude.{◌≡◌, ◌^◌, ◌≤◌, ◌&&◌, leb, if◌then◌else◌, Some, None, nat_le};
+ghost use Rattle.std.specs.Prelude.{◌≡◌, ◌^◌, ◌≤◌, ◌&&◌, if◌then◌else◌, Some, None, nat_le};
 
 // n to the power k stands at 5 * n + k, for n from 0 to 32 and k from 0 to 4.
 const POWERS: [u32; 165] = [
@@ -16,7 +16,7 @@ const POWERS: [u32; 165] = [
 
 // n to the power k, for n up to 32 and k up to 4.
 pub fn power(n: u32, k: u32) -> Option<u32>
-    ensures { result ≡ (if leb n 32 && nat_le k 4 then Some (n ^ k) else None) }
+    ensures { result ≡ (if nat_le n 32 && nat_le k 4 then Some (n ^ k) else None) }
 {
     if n <= 32 && k <= 4 {
         Some(power_at(n, k))

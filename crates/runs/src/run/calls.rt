@@ -11,7 +11,7 @@ ghost use Rattle.runs.specs.Runs.{begin_by_puts, goal_by_image, perform_by_puts}
 use super::TaskRun;
 use crate::facts::put_facts;
 use crate::fitting::fits;
-use crate::goal::{is_applicable, judge_goal, put_changes};
+use crate::goal::{judge_goal, perform_operator};
 use adl::Task;
 use fault::{Cause, Fault, Layer};
 use protocol::Name;
@@ -66,12 +66,9 @@ impl<'t, 'a> TaskRun<'t, 'a> {
             return Err(refuse(Cause::NameDoesNotFit, 0));
         }
         copy(store, image, task.atoms)?;
-        if !is_applicable(task, image, name) {
+        if !perform_operator(task, image, name, store) {
             return Err(refuse(Cause::NotApplicable, steps as u64));
         }
-        let (first, last) = (false, true);
-        put_changes(task, image, name, store, first);
-        put_changes(task, image, name, store, last);
         self.steps = steps + 1;
         Ok(())
     }

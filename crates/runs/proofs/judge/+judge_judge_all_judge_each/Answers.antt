@@ -1,4 +1,4 @@
-use Rattle.std.proofs.Common.{◌≡◌, ℕ, ◌+◌, ◌-◌, ◌<◌, true, false, eqb, length, get_or, take, sym, refl, ap, ◌∙◌, subst, arith, rules, below_more}
+use Rattle.std.proofs.Common.{◌≡◌, ℕ, ◌+◌, ◌-◌, ◌<◌, Bool, true, false, not, ◌||◌, eqb, length, get_or, take, sym, refl, ap, ◌∙◌, subst, arith, rules, below_more}
 use lib.Seq.{set-get_or}
 use Rattle.std.proofs.lemmas.Bool.{eqb-true, eq-eqb}
 use Rattle.table.specs.declared.kind.Kind.TheVariants.{True, False, Atom, Equal, Not, And, Or, Imply, Forall, Exists}
@@ -19,6 +19,15 @@ use Rattle.runs.proofs.Shapes.{begins, formula_kind, ends_after, at_true, at_fal
 use Rattle.runs.proofs.Sheets.{one_more_bound, restored}
 use Rattle.runs.proofs.judge.+judge_judge_all_judge_each.Goals as goal
 use Rattle.runs.proofs.judge.+judge_judge_all_judge_each.Goals.{judge_each-then-members-o-eq1+else-part-all, judge_each-else-members-o-eq1}
+
+-- an implication whose first part is false, or true
+first_false : (a b : Bool) → a ≡ false → not a ≡ (not a || b)
+first_false true b e = cc
+first_false false b e = refl
+
+first_true : (a b : Bool) → a ≡ true → b ≡ (not a || b)
+first_true true b e = refl
+first_true false b e = cc
 
 pub judge-offset_bounds-task-at : goal.judge-offset_bounds-task-at
 judge-offset_bounds-task-at t c = omega (arith, begins c.requires.stands.2)
@@ -251,8 +260,8 @@ judge-returns-in-Or t c =
           (from (tree_of c.args.task.now) (shown c.args.image.now) (bound c.args.sheet.now c.args.depth) f (junction any (formulas_of x.0)) _ x.1 e.0, e.1);
     }
 
-pub judge-returns-in-Imply : goal.judge-returns-in-Imply
-judge-returns-in-Imply t c =
+pub judge-returns-then-not-first : goal.judge-returns-then-not-first
+judge-returns-then-not-first t c =
     let t = tree_of c.args.task.now in
     let w = shown c.args.image.now in
     let d = c.args.depth in
@@ -263,7 +272,22 @@ judge-returns-in-Imply t c =
           let a = c.judge-first.ensures.value x.0 x.2 x.4 in
           let b = c.judge-second.ensures.value x.1 j (subst (λ n. FormulaAt (held c.args.task.now) d n x.1 j) (sym a.1) x.5) in
           let e = subst (λ sh. c.judge-second.result.0 ≡ value t w (bound sh d) x.1) c.judge-first.ensures.same b.0 in
-          (implied t w (bound c.args.sheet.now d) f x.0 x.1 c.judge-first.result.0 c.judge-second.result.0 _ x.3 a.0 e c.implies.ensures, b.1);
+          (implied t w (bound c.args.sheet.now d) f x.0 x.1 c.judge-first.result.0 c.judge-second.result.0 _ x.3 a.0 e (first_false c.judge-first.result.0 c.judge-second.result.0 c.if-not-first.true), b.1);
+    }
+
+pub judge-returns-else-not-first : goal.judge-returns-else-not-first
+judge-returns-else-not-first t c =
+    let t = tree_of c.args.task.now in
+    let w = shown c.args.image.now in
+    let d = c.args.depth in
+    record {
+      same = c.judge-second.ensures.same ∙ c.judge-first.ensures.same;
+      value = λ f j s.
+          let x = at_imply s c.in-Imply.ensures in
+          let a = c.judge-first.ensures.value x.0 x.2 x.4 in
+          let b = c.judge-second.ensures.value x.1 j (subst (λ n. FormulaAt (held c.args.task.now) d n x.1 j) (sym a.1) x.5) in
+          let e = subst (λ sh. c.judge-second.result.0 ≡ value t w (bound sh d) x.1) c.judge-first.ensures.same b.0 in
+          (implied t w (bound c.args.sheet.now d) f x.0 x.1 c.judge-first.result.0 c.judge-second.result.0 _ x.3 a.0 e (first_true c.judge-first.result.0 c.judge-second.result.0 c.if-not-first.false), b.1);
     }
 
 pub judge-returns-in-Forall : goal.judge-returns-in-Forall
