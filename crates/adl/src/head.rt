@@ -95,7 +95,7 @@ pub(crate) fn head_at(
     if at >= table.sizes.entries as usize {
         return Err(refuse(Cause::EntriesMismatch, at));
     }
-    let Some(kind) = Kind::of(table.kinds[at]) else {
+    let Ok(kind) = Kind::try_from(table.kinds[at]) else {
         return Err(refuse(Cause::KindNotPermitted, at));
     };
     let operand = table.operands[at];

@@ -12,9 +12,9 @@ pub(crate) fn kind_at(table: &BookTable, at: usize) -> Kind
     requires known { slice_index table.now.kinds.now at < 22 }
     ensures { code_of result ≡ slice_index table.now.kinds.now at }
 {
-    match Kind::of(table.kinds[at]) {
-        Some(kind) => kind,
-        None => unreachable(),
+    match Kind::try_from(table.kinds[at]) {
+        Ok(kind) => kind,
+        Err(_) => unreachable(),
     }
 }
 
@@ -23,7 +23,7 @@ pub(crate) fn is_kind(table: &BookTable, at: usize, kind: Kind) -> bool
     requires { at < table.now.sizes.entries }
     ensures { result ≡ (slice_index table.now.kinds.now at == code_of kind) }
 {
-    table.kinds[at] == kind.code()
+    table.kinds[at] == u8::from(kind)
 }
 
 // Whether the image shows the fact.

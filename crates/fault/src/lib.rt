@@ -59,27 +59,41 @@ pub struct Fault {
     pub place: u64,
 }
 
+impl Fault {
+    // A refusal with this cause, in this layer, at this place.
+    pub fn new(cause: Cause, layer: Layer, place: u64) -> Fault
+        ensures { result ≡ record { cause = cause; layer = layer; place = place } }
+    {
+        Fault {
+            cause,
+            layer,
+            place,
+        }
+    }
+}
+
 // The number that the return list gives a cause.
-pub fn number(cause: Cause) -> u8
-    ensures value { result ≡ number_of cause }
-    ensures named { cause_of result ≡ cause }
-{
-    match cause {
-        Cause::SizeOutOfLimits => 1,
-        Cause::ArrayTooShort => 2,
-        Cause::KindNotPermitted => 3,
-        Cause::EntriesMismatch => 4,
-        Cause::OperandOutOfRange => 5,
-        Cause::TooLongOrDeep => 6,
-        Cause::TooManyAtoms => 7,
-        Cause::NotRising => 8,
-        Cause::StoreTooSmall => 21,
-        Cause::ImageTooShort => 22,
-        Cause::NameDoesNotFit => 23,
-        Cause::NotApplicable => 24,
-        Cause::NoSuchAtom => 25,
-        Cause::StepLimit => 26,
-        Cause::OutsideStore => 31,
+impl From<Cause> for u8 {
+    ghost from_gives = { λ cause number. (number ≡ number_of cause) × (cause_of number ≡ cause) };
+
+    fn from(cause: Cause) -> u8 {
+        match cause {
+            Cause::SizeOutOfLimits => 1,
+            Cause::ArrayTooShort => 2,
+            Cause::KindNotPermitted => 3,
+            Cause::EntriesMismatch => 4,
+            Cause::OperandOutOfRange => 5,
+            Cause::TooLongOrDeep => 6,
+            Cause::TooManyAtoms => 7,
+            Cause::NotRising => 8,
+            Cause::StoreTooSmall => 21,
+            Cause::ImageTooShort => 22,
+            Cause::NameDoesNotFit => 23,
+            Cause::NotApplicable => 24,
+            Cause::NoSuchAtom => 25,
+            Cause::StepLimit => 26,
+            Cause::OutsideStore => 31,
+        }
     }
 }
 
@@ -88,13 +102,12 @@ impl fmt::Display for Layer {
     ghost output = { λ l. Some (layer_text l) };
 
     fn fmt<W: fmt::Write>(&self, f: &mut fmt::Formatter<W>) -> fmt::Result {
-        let name = match *self {
+        f.write_str(match *self {
             Layer::Task => "task",
             Layer::Book => "book",
             Layer::Run => "run",
             Layer::Store => "store",
-        };
-        write!(f, "{name}")
+        })
     }
 }
 
@@ -103,7 +116,7 @@ impl fmt::Display for Fault {
     ghost output = { λ f. Some (fault_text f) };
 
     fn fmt<W: fmt::Write>(&self, f: &mut fmt::Formatter<W>) -> fmt::Result {
-        let cause = number(self.cause);
+        let cause = u8::from(self.cause);
         let layer = self.layer;
         let place = self.place;
         write!(f, "refused {cause} {layer} {place}")

@@ -1,5 +1,4 @@
 use adl::{Sizes, Task};
-use fault::number;
 use store::{Bits, ListStore, Store};
 
 // What loading answers: the number of the refusal and its place, or two zeros.
@@ -7,7 +6,7 @@ fn answer<'a>(sizes: Sizes, kinds: &'a [u8], operands: &'a [u32]) -> (u8, u64) {
     let mut task = Task::new();
     match task.load(sizes, kinds, operands) {
         Ok(()) => (0, 0),
-        Err(fault) => (number(fault.cause), fault.place),
+        Err(fault) => (u8::from(fault.cause), fault.place),
     }
 }
 

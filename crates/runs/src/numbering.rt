@@ -18,9 +18,9 @@ pub(crate) fn kind_at(task: &Task, at: usize) -> Kind
     requires known { slice_index task.now.table.kinds.now at < 22 }
     ensures { code_of result ≡ slice_index task.now.table.kinds.now at }
 {
-    match Kind::of(task.table.kinds[at]) {
-        Some(kind) => kind,
-        None => unreachable(),
+    match Kind::try_from(task.table.kinds[at]) {
+        Ok(kind) => kind,
+        Err(_) => unreachable(),
     }
 }
 

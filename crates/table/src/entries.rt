@@ -10,7 +10,7 @@ pub fn kinds_of<const N: usize>(entries: &[(Kind, u32); N]) -> [u8; N]
 {
     let mut kinds = [0; N];
     for i in 0..N {
-        kinds[i] = entries[i].0.code();
+        kinds[i] = u8::from(entries[i].0);
     }
     kinds
 }

@@ -1,12 +1,9 @@
 // The kinds of entries.
-ghost use Rattle.std.specs.Prelude.{◌≡◌, ◌≤◌, MatchOption, ◌==◌};
+ghost use Rattle.std.specs.Prelude.{◌≡◌, ◌≤◌, MatchResult};
 ghost use Rattle.table.specs.Kinds.{code_of};
-ghost use Rattle.std.specs.Cmp.Rules.{comparing};
-ghost use Rattle.std.proofs.Common.{rules};
-ghost use Rattle.std.specs.Cmp as Keys;
 
 // What an entry is.
-#[derive(Clone, Copy, Eq, Debug)]
+#[derive(Clone, Copy, PartialEq, Eq, Debug)]
 pub enum Kind {
     True,
     False,
@@ -32,52 +29,50 @@ pub enum Kind {
     Always,
 }
 
-impl Kind {
-    // The kind with that code.
-    pub fn of(code: u8) -> Option<Kind>
-        ensures { MatchOption result (22 ≤ code) (λ k. code_of k ≡ code) }
-    {
-        match code {
-            0 => Some(Kind::True),
-            1 => Some(Kind::False),
-            2 => Some(Kind::Atom),
-            3 => Some(Kind::Equal),
-            4 => Some(Kind::Not),
-            5 => Some(Kind::And),
-            6 => Some(Kind::Or),
-            7 => Some(Kind::Imply),
-            8 => Some(Kind::Forall),
-            9 => Some(Kind::Exists),
-            10 => Some(Kind::Object),
-            11 => Some(Kind::Variable),
-            12 => Some(Kind::When),
-            13 => Some(Kind::Fact),
-            14 => Some(Kind::TypeSet),
-            15 => Some(Kind::Predicate),
-            16 => Some(Kind::Operator),
-            17 => Some(Kind::Parameter),
-            18 => Some(Kind::Action),
-            19 => Some(Kind::StartsTrue),
-            20 => Some(Kind::StartsFalse),
-            21 => Some(Kind::Always),
-            _ => None,
-        }
-    }
+// A code that no kind has.
+#[derive(Clone, Copy, Debug, PartialEq, Eq)]
+pub struct UnknownKind(pub u8);
 
-    // The code of a kind.
-    pub fn code(self) -> u8
-        ensures { result ≡ code_of self }
-    {
-        self as u8
+// The kind with that code.
+impl TryFrom<u8> for Kind {
+    type Error = UnknownKind;
+
+    ghost try_from_gives = { λ code result. MatchResult result (λ kind. code_of kind ≡ code) (λ unknown. (22 ≤ code) × (unknown.0 ≡ code)) };
+
+    fn try_from(code: u8) -> Result<Kind, UnknownKind> {
+        match code {
+            0 => Ok(Kind::True),
+            1 => Ok(Kind::False),
+            2 => Ok(Kind::Atom),
+            3 => Ok(Kind::Equal),
+            4 => Ok(Kind::Not),
+            5 => Ok(Kind::And),
+            6 => Ok(Kind::Or),
+            7 => Ok(Kind::Imply),
+            8 => Ok(Kind::Forall),
+            9 => Ok(Kind::Exists),
+            10 => Ok(Kind::Object),
+            11 => Ok(Kind::Variable),
+            12 => Ok(Kind::When),
+            13 => Ok(Kind::Fact),
+            14 => Ok(Kind::TypeSet),
+            15 => Ok(Kind::Predicate),
+            16 => Ok(Kind::Operator),
+            17 => Ok(Kind::Parameter),
+            18 => Ok(Kind::Action),
+            19 => Ok(Kind::StartsTrue),
+            20 => Ok(Kind::StartsFalse),
+            21 => Ok(Kind::Always),
+            _ => Err(UnknownKind(code)),
+        }
     }
 }
 
-impl PartialEq for Kind {
-    ghost eq = { λ a b. (code_of a == code_of b) };
+// The code of a kind.
+impl From<Kind> for u8 {
+    ghost from_gives = { λ kind code. code ≡ code_of kind };
 
-    ghost laws = { Keys.partial_equiv_from_equiv (Prim.search (comparing, rules)) };
-
-    fn eq(&self, other: &Kind) -> bool {
-        self.code() == other.code()
+    fn from(kind: Kind) -> u8 {
+        kind as u8
     }
 }

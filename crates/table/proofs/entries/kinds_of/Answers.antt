@@ -11,5 +11,5 @@ loop-i-init g c = (length-replicate g.row.N 0, λ k l. let z : ⊥ = omega arith
 pub loop-i-preserved : goal.loop-i-preserved
 loop-i-preserved g c = (
   length-set _ _ _ ∙ c.loop-i.invariant.0,
-  one_more_filled c.loop-i.kinds c.loop-i.i _ (λ k. code_of (get_or c.args.entries.now k (True, 0)).0) (omega (arith, c.loop-i.invariant.0)) c.loop-i.invariant.1 c.code.ensures,
+  one_more_filled c.loop-i.kinds c.loop-i.i _ (λ k. code_of (get_or c.args.entries.now k (True, 0)).0) (omega (arith, c.loop-i.invariant.0)) c.loop-i.invariant.1 c.from.ensures,
 )
