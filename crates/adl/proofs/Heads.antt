@@ -1,7 +1,6 @@
 -- The first entry of what is read.
-use Rattle.std.proofs.Common.{◌≡◌, ℕ, ◌+◌, ◌<◌, ◌≤◌, Bool, true, false, ltb, get_or, Ok, Err, sym, refl, ap, ◌∙◌, arith}
-use Rattle.std.proofs.lemmas.Bool.{ltb-true, lt-ltb, cond-true, cond-false}
-use Rattle.fault.specs.declared.Fault.{Fault}
+use Rattle.std.proofs.Common.{◌≡◌, ℕ, ◌+◌, ◌<◌, Bool, true, false, ltb, get_or, Ok, Err, sym, refl, ap, ◌∙◌, arith}
+use Rattle.std.proofs.lemmas.Bool.{ltb-true}
 use Rattle.fault.specs.declared.Layer.TheVariants as layer
 use Rattle.fault.specs.Faults.{refusal}
 use Rattle.table.specs.declared.places.Place.{Place}
@@ -10,7 +9,6 @@ use Rattle.table.specs.Reading.{Entry, Out, good, then, unless}
 use Rattle.adl.specs.Tables.{Table, Around, entry_at, within_bounds, in_range, head}
 use Rattle.adl.specs.Views.{answer, heading}
 use Rattle.table.proofs.Reading.{passed, first_step}
-use Rattle.table.proofs.Permitting.{no_kind_permitted}
 
 -- an entry that the code was given
 after_tests : (a b c d : Bool) (x e : Entry) (i : ℕ) → Ok e ≡ heading (unless a 4 i (unless b 3 i (unless c 6 i (unless d 5 i (good x (i + 1)))))) → unless a 4 i (unless b 3 i (unless c 6 i (unless d 5 i (good x (i + 1))))) ≡ good e (i + 1)
@@ -28,11 +26,9 @@ headed t p a i e h =
 pub head_goes : {B : Type 0} (t : Table) (p : Place) (a : Around) (i : ℕ) (e : Entry) (g : Entry → ℕ → Out B) → Ok e ≡ heading (head t p a i) → answer (g e (i + 1)) ≡ answer (then (head t p a i) g)
 head_goes t p a i e g h = sym (ap (λ x. answer (then x g)) (headed t p a i e h))
 
--- a number that is no kind's code is refused wherever it stands
-pub no_kind : (t : Table) (p : Place) (a : Around) (i : ℕ) (f : Fault) → i < t.entries → 22 ≤ get_or t.kinds i 0 → f ≡ refusal 3 layer.Task i → Err f ≡ heading (head t p a i)
-no_kind t p a i f h k e =
-    ap Err e
-    ∙ sym (ap (λ o. heading o) (cond-true (ltb i t.entries) _ _ (lt-ltb i t.entries h) ∙ cond-false (permitted p (get_or t.kinds i 0)) _ _ (no_kind_permitted p (get_or t.kinds i 0) k)))
+-- the same table and the same that is known around a place
+pub alike : {X : Type 0} (f : Table → Around → X) {t u : Table} {a b : Around} → t ≡ u → a ≡ b → f t a ≡ f u b
+alike f {t} {u} {a} {b} p q = ap (λ x. f x a) p ∙ ap (λ y. f u y) q
 
 -- what is known of an entry that was read
 pub record Found (t : Table) (p : Place) (a : Around) (i : ℕ) (e : Entry) (j : ℕ) : Type 0 where

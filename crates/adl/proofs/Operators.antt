@@ -1,6 +1,6 @@
 -- The operators of a table, part after part, and the places where they begin.
 use Rattle.std.proofs.Common.{◌≡◌, ℕ, ◌+◌, ◌-◌, ◌<◌, List, [], ◌∷◌, ◌++◌, map, length, get_or, take, set, Ok, Err, sym, ap, ◌∙◌, append_assoc, arith}
-use Rattle.std.proofs.lemmas.List.{take_more_set, map_push, append-nil}
+use Rattle.std.proofs.lemmas.List.{take_more_set, append-nil}
 use Rattle.fault.specs.declared.Fault.{Fault}
 use Rattle.table.specs.declared.places.Place.TheVariants as place
 use Rattle.table.specs.Reading.{Entry, Out, good, then, many, next_place, starts}
@@ -54,29 +54,17 @@ module _ (t : Table) (i : ℕ) (e : Entry) (first : Ok e ≡ heading (head t pla
       ∙ ap (λ x. next_place (formula t 256 (outermost x k) k)) n
       ∙ ap (λ x. next_place (formula t 256 (outermost (get_or t.operands i 0) x) x)) y
 
--- Places that a loop notes, of which i are noted.
-pub starts_noted : {A : Type 0} (read : ℕ → Out A) (m i from to : ℕ) (ss whole : List ℕ) → i < m → i < length ss → next_place (read from) ≡ to → take i ss ++ starts read (m - i) from ≡ whole → take (i + 1) (set ss i from) ++ starts read (m - (i + 1)) to ≡ whole
-starts_noted read m i from to ss whole h n e inv =
-    ap (λ xs. xs ++ starts read (m - (i + 1)) to) (take_more_set ss i from n)
-    ∙ append_assoc (take i ss) (from ∷ []) (starts read (m - (i + 1)) to)
-    ∙ ap (λ ys. take i ss ++ ys) (sym (starts_turn read m i from to h e))
+-- What a loop notes of the places where items begin, i of which are done.
+pub noted : {A B : Type 0} (read : ℕ → Out A) (f : ℕ → B) (m i from to : ℕ) (v : B) (vs whole : List B) → i < m → i < length vs → v ≡ f from → next_place (read from) ≡ to
+    → take i vs ++ map f (starts read (m - i) from) ≡ whole → take (i + 1) (set vs i v) ++ map f (starts read (m - (i + 1)) to) ≡ whole
+noted read f m i from to v vs whole h n same e inv =
+    ap (λ xs. xs ++ map f (starts read (m - (i + 1)) to)) (take_more_set vs i v n ∙ ap (λ x. take i vs ++ x ∷ []) same)
+    ∙ append_assoc (take i vs) (f from ∷ []) (map f (starts read (m - (i + 1)) to))
+    ∙ ap (λ ys. take i vs ++ map f ys) (sym (starts_turn read m i from to h e))
     ∙ inv
 
--- a value by such a place, noted beside it
-pub others_noted : (f : ℕ → ℕ) (i from v : ℕ) (ss es : List ℕ) → i < length ss → i < length es → v ≡ f from → take i es ≡ map f (take i ss) → take (i + 1) (set es i v) ≡ map f (take (i + 1) (set ss i from))
-others_noted f i from v ss es n m e inv =
-    take_more_set es i v m
-    ∙ ap (λ x. take i es ++ x ∷ []) e
-    ∙ ap (λ xs. xs ++ f from ∷ []) inv
-    ∙ sym (map_push f (take i ss) from)
-    ∙ sym (ap (map f) (take_more_set ss i from n))
-
--- when none is left, all places are noted
-pub all_starts_noted : {A : Type 0} (read : ℕ → Out A) (m i from : ℕ) (ss whole : List ℕ) → i ≡ m → take i ss ++ starts read (m - i) from ≡ whole → take m ss ≡ whole
-all_starts_noted read m i from ss whole e inv =
+-- when none is left, all are noted
+pub all_noted : {A B : Type 0} (read : ℕ → Out A) (f : ℕ → B) (m i from : ℕ) (vs whole : List B) → i ≡ m → take i vs ++ map f (starts read (m - i) from) ≡ whole → take m vs ≡ whole
+all_noted read f m i from vs whole e inv =
     let z : m - i ≡ 0 = omega arith in
-    ap (λ n. take n ss) (sym e) ∙ sym (append-nil (take i ss)) ∙ ap (λ ys. take i ss ++ ys) (sym (starts_over read (m - i) from z)) ∙ inv
-
-pub all_others_noted : (f : ℕ → ℕ) (m i : ℕ) (ss es whole : List ℕ) → i ≡ m → take m ss ≡ whole → take i es ≡ map f (take i ss) → take m es ≡ map f whole
-all_others_noted f m i ss es whole e all inv =
-    ap (λ n. take n es) (sym e) ∙ inv ∙ ap (λ n. map f (take n ss)) e ∙ ap (map f) all
+    ap (λ n. take n vs) (sym e) ∙ sym (append-nil (take i vs)) ∙ ap (λ ys. take i vs ++ map f ys) (sym (starts_over read (m - i) from z)) ∙ inv

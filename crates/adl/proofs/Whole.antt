@@ -6,11 +6,13 @@ use Rattle.table.specs.Reading.{Out, bad, good, then, unless, series, many, next
 use Rattle.model.specs.Trees as tree
 use Rattle.model.specs.Trees.{atoms_of, atoms}
 use Rattle.adl.specs.Tables.{Table, outermost}
-use Rattle.adl.specs.Reads.{type_set, with_atoms, predicate, fact, formula, operator, task, facts_place, goal_place, operators_place, operator_places, effect_place, effect_places}
-use Rattle.table.specs.Answers.{is_good}
+use Rattle.adl.specs.Reads.{type_set, with_atoms, predicate, fact, formula, operator, task, facts_place, goal_place, operators_place, operator_places}
+use Rattle.adl.specs.Kept.{places_from}
+use Rattle.table.specs.Answers.{is_good, whether}
 use Rattle.adl.specs.Loads.{faulty, done, task_in}
 use Rattle.adl.specs.Views.{answer}
-use Rattle.adl.specs.Records.{answered, Placed}
+use Rattle.table.specs.Answers.{whether}
+use Rattle.adl.specs.Records.{Placed}
 use Rattle.adl.specs.declared.declare.Places.{Places}
 use Rattle.fault.specs.declared.Layer.TheVariants as layer
 use Rattle.table.proofs.Answering.{refused, read_well, place_after, made_refused}
@@ -24,11 +26,11 @@ done_refused (good b j) f e = cc
 
 -- what a check of all entries promises of its answer
 pub record CheckedAll (t : Table) (r : Result Places Fault) : Type 0 where
-  pub same : answered r ≡ done (task t)
+  pub same : whether r ≡ done (task t)
   pub placed : IfOk r (Placed t)
 
 pub all_refused : (t : Table) (r : Result Places Fault) (f : Fault) → r ≡ Err f → Err f ≡ answer (task t) → CheckedAll t r
-all_refused t r f e h = record { same = ap answered e ∙ done_refused (task t) f h; placed = made_refused (Placed t) r f e }
+all_refused t r f e h = record { same = ap whether e ∙ done_refused (task t) f h; placed = made_refused (Placed t) r f e }
 
 module _ (t : Table) where
   abbrev pub at_end : List ℕ → List ℕ → List tree.Fact → tree.Formula → List tree.Operator → ℕ → Out tree.Task
@@ -128,11 +130,10 @@ module _ (t : Table) where
             pub all_read : (p : Places) → t.entries ≤ m
                 → ((ps : List ℕ) (x : ℕ) → series (predicate t) (with_atoms t) t.predicates 0 i ≡ good ps x → p.atoms ≡ atoms_of t.objects ps)
                 → p.goal_at ≡ k
-                → take t.operators p.operators.starts ≡ starts (operator t) t.operators l
-                → take t.operators p.operators.effects ≡ map (effect_place t) (starts (operator t) t.operators l)
+                → take t.operators p.operators.places ≡ map (places_from t) (starts (operator t) t.operators l)
                 → CheckedAll t (Ok p)
-            unfolding operator_places effect_places
-            all_read p h counts at ss es =
+            unfolding operator_places
+            all_read p h counts at ps =
                 let e = all_good h in
                 record {
                   same = sym (ap done e);
@@ -140,7 +141,6 @@ module _ (t : Table) where
                     formed = ap is_good e;
                     counted = counts to_facts.1 j to_facts.2 ∙ sym (ap (λ o. atoms (task_in o)) e);
                     goal = at ∙ goal_begins;
-                    operators = ss ∙ ap (λ x. starts (operator t) t.operators x) operators_begin;
-                    effects = es ∙ ap (λ x. map (effect_place t) (starts (operator t) t.operators x)) operators_begin;
+                    operators = ps ∙ ap (λ x. map (places_from t) (starts (operator t) t.operators x)) operators_begin;
                   };
                 }

@@ -5,3 +5,4 @@ pub mod Views
 pub mod Ends
 pub mod Held
 pub mod Records
+pub mod Kept

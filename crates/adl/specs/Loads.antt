@@ -1,17 +1,16 @@
 -- What loading answers, and the task that a record holds.
-use Rattle.std.specs.Prelude.{ℕ, Bool, true, false, cond, ◌||◌, List, [], length, Ok, Err, Result, ◌==◌, nat_lt}
+use Rattle.std.specs.Prelude.{ℕ, Bool, true, ◌||◌, List, [], Ok, ◌==◌, nat_lt}
 use Rattle.fault.specs.declared.Fault.{Fault}
 use Rattle.fault.specs.declared.Layer.TheVariants as layer
 use Rattle.fault.specs.Faults.{refusal}
 use Rattle.table.specs.Reading.{Out, bad, good}
+use Rattle.table.specs.Answers as read
+use Rattle.table.specs.Answers.{Answer, and_then, is_good}
 use Rattle.model.specs.Trees as tree
 use Rattle.model.specs.Trees.{constant}
 use Rattle.adl.specs.Tables.{Table}
 use Rattle.adl.specs.Reads.{task}
 use Rattle.adl.specs.declared.sizes.Sizes.{Sizes}
-
-abbrev pub Answer : Type 0
-Answer = Result (Unit {0}) Fault
 
 -- a fault of a table
 abbrev pub faulty : ℕ → ℕ → Fault
@@ -19,12 +18,7 @@ faulty n p = refusal n layer.Task p
 
 -- if the test passes, the fault with number n at place p
 abbrev pub refuse_if : Bool → ℕ → ℕ → Answer → Answer
-refuse_if test n p rest = cond test (Err (faulty n p)) rest
-
--- after an answer that is no refusal
-abbrev pub and_then : Answer → Answer → Answer
-and_then (Ok u) next = next
-and_then (Err f) next = Err f
+refuse_if = read.refuse_if layer.Task
 
 -- the sizes, first to last: each outside its limits is refused by its position
 abbrev pub sizes_fit : Sizes → Answer
@@ -39,7 +33,7 @@ sizes_fit z =
 
 -- each array has at least as many places as there are entries, kinds first
 abbrev pub lengths_fit : ℕ → List ℕ → List ℕ → Answer
-lengths_fit e ks os = refuse_if (nat_lt (length ks) e) 2 (length ks) (refuse_if (nat_lt (length os) e) 2 (length os) (Ok tt))
+lengths_fit = read.lengths_fit layer.Task
 
 -- the table that these sizes and arrays make
 abbrev pub given : Sizes → List ℕ → List ℕ → Table
@@ -56,16 +50,11 @@ given z ks os = record {
 
 -- a reading as an answer
 abbrev pub done : {A : Type 0} → Out A → Answer
-done (bad n p) = Err (faulty n p)
-done (good x j) = Ok tt
+done = read.done layer.Task
 
 -- what loading answers: the first fault of the sizes, of the arrays, of the entries
 abbrev pub loads : Sizes → List ℕ → List ℕ → Answer
 loads z ks os = and_then (sizes_fit z) (and_then (lengths_fit z.entries ks os) (done (task (given z ks os))))
-
-abbrev pub is_good : {A : Type 0} → Out A → Bool
-is_good (bad n p) = false
-is_good (good x j) = true
 
 -- a task stands in the table
 abbrev pub accepted : Table → Bool

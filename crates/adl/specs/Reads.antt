@@ -1,5 +1,6 @@
 -- Reading a task from its table.
 use Rattle.std.specs.Prelude.{ℕ, zero, suc, ◌+◌, ◌^◌, Bool, true, false, cond, ◌||◌, List, [], ◌∷◌, map, ◌==◌, nat_le, slice_index}
+use Rattle.table.specs.declared.places.Place.{Place}
 use Rattle.table.specs.declared.places.Place.TheVariants as place
 use Rattle.table.specs.Reading.{Entry, Out, bad, good, then, unless, series, many, next_place, starts}
 use Rattle.model.specs.Meaning.{object_of}
@@ -81,9 +82,13 @@ unfoldable pub effect : Table → ℕ → Around → ℕ → Out Effect
 effect t zero a i = then (head t place.Effect a i) λ e j. bad 6 i
 effect t (suc room) a i = then (head t place.Effect a i) λ e j. effect_by t (effect t room) a e j
 
+-- the operand of one entry
+abbrev pub operand_at : Table → Place → ℕ → Out ℕ
+operand_at t p i = then (head t p (outermost 0 i) i) λ e j. good e.operand j
+
 -- a type is a set of objects
 abbrev pub type_set : Table → ℕ → Out ℕ
-type_set t i = then (head t place.TypeSet (outermost 0 i) i) λ e j. good e.operand j
+type_set t = operand_at t place.TypeSet
 
 -- a predicate's arity; the predicates before it have `before` atoms, and all of them together at most 65,536
 abbrev pub most_atoms : ℕ
@@ -106,7 +111,7 @@ fact t i =
 
 -- the type of a parameter
 abbrev pub parameter : Table → ℕ → Out ℕ
-parameter t i = then (head t place.Parameter (outermost 0 i) i) λ e j. good e.operand j
+parameter t = operand_at t place.Parameter
 
 -- an operator: its parameters, its precondition, its effect
 abbrev pub operator : Table → ℕ → Out tree.Operator

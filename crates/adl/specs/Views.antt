@@ -1,35 +1,30 @@
 -- What the values of the code stand for.
-use Rattle.std.specs.Prelude.{ℕ, Ok, Err, Result}
+use Rattle.std.specs.Prelude.{ℕ, Result}
 use Rattle.fault.specs.declared.Fault.{Fault}
-use Rattle.table.specs.Kinds.{code_of}
-use Rattle.table.specs.Reading.{Entry, entry, Out, bad, good}
+use Rattle.fault.specs.declared.Layer.TheVariants as layer
+use Rattle.table.specs.Reading.{Entry, Out}
+use Rattle.table.specs.Answers as read
 use Rattle.adl.specs.Tables as spec
-use Rattle.adl.specs.Loads.{given, faulty}
+use Rattle.adl.specs.Loads.{given}
 use Rattle.adl.specs.declared.task_table.TaskTable.{TaskTable}
-use Rattle.adl.specs.declared.around.Around.{Around}
-use Rattle.adl.specs.declared.head.Head.{Head}
+use Rattle.adl.specs.declared.reader.Reader.{Reader}
 
 -- the table of a record
 abbrev pub table : TaskTable → spec.Table
-table t = given t.sizes t.kinds.now t.operands.now
+table t = given t.sizes t.entries.kinds.now t.entries.operands.now
 
-abbrev pub around : Around → spec.Around
-around a = record { variables = a.variables; quantifiers = a.quantifiers; start = a.start }
+-- the table that a reader reads
+abbrev pub table_read : Reader → spec.Table
+table_read r = table r.table.now
+
+-- what is known around the place of a reader
+abbrev pub around : Reader → spec.Around
+around r = record { variables = r.variables; quantifiers = r.quantifiers; start = r.start }
 
 -- the place after what was read, or the fault
 abbrev pub answer : {A : Type 0} → Out A → Result ℕ Fault
-answer (bad n p) = Err (faulty n p)
-answer (good x j) = Ok j
-
--- an entry with its kind's code
-abbrev pub coded : Head → Entry
-coded h = entry (code_of h.kind) h.operand
-
-abbrev pub all_coded : Result Head Fault → Result Entry Fault
-all_coded (Ok h) = Ok (coded h)
-all_coded (Err f) = Err f
+answer = read.answer layer.Task
 
 -- the entry that was read, or the fault
 abbrev pub heading : Out Entry → Result Entry Fault
-heading (bad n p) = Err (faulty n p)
-heading (good e j) = Ok e
+heading = read.heading layer.Task

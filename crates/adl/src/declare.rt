@@ -2,26 +2,34 @@
 ghost use Rattle.std.specs.Prelude.{◌≡◌, ℕ, ◌+◌, ◌-◌, ◌<◌, ◌≤◌, List, map, take, IfOk};
 ghost use Rattle.model.specs.Trees.{atoms_of};
 ghost use Rattle.table.specs.Reading.{good, series, many, starts};
-ghost use Rattle.adl.specs.Reads.{type_set, with_atoms, predicate, fact, parameter, operator, effect_place};
+ghost use Rattle.adl.specs.Reads.{operand_at, type_set, with_atoms, predicate, fact, operator, effect_place};
+ghost use Rattle.adl.specs.Kept.{places_from};
 ghost use Rattle.adl.specs.Views.{table as table_in, answer};
 ghost use Rattle.adl.specs.Ends.{predicates_end, operator_end, operators_end};
 
-use crate::check::{check_effect, check_formula, check_terms};
-use crate::head::{head_at, outermost, refuse};
+use crate::operator_places::OperatorPlaces;
+use crate::reader::Reader;
 use crate::task_table::TaskTable;
-use fault::{Cause, Fault};
+use fault::{Cause, Fault, Layer};
 use table::{Place, power};
+
+// So many types or parameters, one entry each, from place `at`.
+fn check_row(table: &TaskTable, place: Place, count: u32, at: usize) -> Result<usize, Fault>
+    ensures { result ≡ answer (many (operand_at (table_in table.now) place) count at) }
+{
+    let mut next = at;
+    for _ in 0..count {
+        let _ = Reader::outermost(table, 0, next).head_at(place, next)?;
+        next += 1;
+    }
+    Ok(next)
+}
 
 // The types, from the first entry on.
 pub(crate) fn check_types(table: &TaskTable) -> Result<usize, Fault>
     ensures { result ≡ answer (many (type_set (table_in table.now)) table.now.sizes.types 0) }
 {
-    let mut next = 0;
-    for _k in 0..table.sizes.types {
-        let _ = head_at(table, Place::TypeSet, outermost(0, next), next)?;
-        next += 1;
-    }
-    Ok(next)
+    check_row(table, Place::TypeSet, table.sizes.types, 0)
 }
 
 // The predicates that were checked: how many atoms they have, and the place after them.
@@ -38,13 +46,12 @@ fn check_predicate(table: &TaskTable, before: u32, at: usize) -> Result<Predicat
     ensures counted { IfOk result (λ p. ((a j : ℕ) → predicate (table_in table.now) before at ≡ good a j → p.atoms ≡ with_atoms (table_in table.now) before a)) }
     ensures few { IfOk result (λ p. p.atoms ≤ 65536) }
 {
-    let head = head_at(table, Place::Predicate, outermost(0, at), at)?;
-    let own = match power(table.sizes.objects, head.operand) {
-        Some(own) => own,
-        None => unreachable(),
+    let head = Reader::outermost(table, 0, at).head_at(Place::Predicate, at)?;
+    let Some(own) = power(table.sizes.objects, head.operand) else {
+        unreachable()
     };
     if before + own > 65536 {
-        return Err(refuse(Cause::TooManyAtoms, at));
+        return Err(Fault::new(Cause::TooManyAtoms, Layer::Task, at as u64));
     }
     Ok(Predicates {
         atoms: before + own,
@@ -59,7 +66,7 @@ pub(crate) fn check_predicates(table: &TaskTable, at: usize) -> Result<Predicate
     ensures few { IfOk result (λ p. p.atoms ≤ 65536) }
 {
     let mut so_far = Predicates { atoms: 0, end: at };
-    for _k in 0..table.sizes.predicates {
+    for _ in 0..table.sizes.predicates {
         so_far = check_predicate(table, so_far.atoms, so_far.end)?;
     }
     Ok(so_far)
@@ -68,9 +75,9 @@ pub(crate) fn check_predicates(table: &TaskTable, at: usize) -> Result<Predicate
 fn check_fact(table: &TaskTable, at: usize) -> Result<usize, Fault>
     ensures { result ≡ answer (fact (table_in table.now) at) }
 {
-    let around = outermost(0, at);
-    let head = head_at(table, Place::Fact, around, at)?;
-    check_terms(table, around, head.operand, at + 1)
+    let reader = Reader::outermost(table, 0, at);
+    let head = reader.head_at(Place::Fact, at)?;
+    reader.check_terms(head.operand, at + 1)
 }
 
 // The facts, from place `at`.
@@ -78,20 +85,8 @@ pub(crate) fn check_facts(table: &TaskTable, at: usize) -> Result<usize, Fault>
     ensures { result ≡ answer (many (fact (table_in table.now)) table.now.sizes.facts at) }
 {
     let mut next = at;
-    for _k in 0..table.sizes.facts {
+    for _ in 0..table.sizes.facts {
         next = check_fact(table, next)?;
-    }
-    Ok(next)
-}
-
-// The parameters of an operator, from place `at`.
-fn check_parameters(table: &TaskTable, count: u32, at: usize) -> Result<usize, Fault>
-    ensures { result ≡ answer (many (parameter (table_in table.now)) count at) }
-{
-    let mut next = at;
-    for _k in 0..count {
-        let _ = head_at(table, Place::Parameter, outermost(0, next), next)?;
-        next += 1;
     }
     Ok(next)
 }
@@ -107,41 +102,42 @@ fn check_operator(table: &TaskTable, at: usize) -> Result<Checked, Fault>
     ensures same { operator_end result ≡ answer (operator (table_in table.now) at) }
     ensures effect { IfOk result (λ o. o.effect ≡ effect_place (table_in table.now) at) }
 {
-    let head = head_at(table, Place::Operator, outermost(0, at), at)?;
-    let precondition = check_parameters(table, head.operand, at + 1)?;
-    let effect = check_formula(
-        table,
+    let head = Reader::outermost(table, 0, at).head_at(Place::Operator, at)?;
+    let precondition = check_row(table, Place::Parameter, head.operand, at + 1)?;
+    let effect = Reader::outermost(table, head.operand, precondition).check_formula(
         256,
-        outermost(head.operand, precondition),
         precondition,
     )?;
-    let end = check_effect(table, 256, outermost(head.operand, effect), effect)?;
+    let end = Reader::outermost(table, head.operand, effect).check_effect(256, effect)?;
     Ok(Checked { effect, end })
 }
 
-// The operators that were checked: where each begins, where its effect begins, and the place after them.
+// The operators that were checked: where each begins and where its effect does, and the place after them.
 #[derive(Clone, Copy)]
 pub(crate) struct Operators {
-    pub(crate) starts: [usize; 32],
-    pub(crate) effects: [usize; 32],
+    pub(crate) places: [OperatorPlaces; 32],
     pub(crate) end: usize,
 }
 
 // The operators, from place `at`.
 pub(crate) fn check_operators(table: &TaskTable, at: usize) -> Result<Operators, Fault>
     ensures same { operators_end result ≡ answer (many (operator (table_in table.now)) table.now.sizes.operators at) }
-    ensures starts { IfOk result (λ o. take table.now.sizes.operators o.starts ≡ starts (operator (table_in table.now)) table.now.sizes.operators at) }
-    ensures effects { IfOk result (λ o. take table.now.sizes.operators o.effects ≡ map (effect_place (table_in table.now)) (starts (operator (table_in table.now)) table.now.sizes.operators at)) }
+    ensures places { IfOk result (λ o. take table.now.sizes.operators o.places ≡ map (places_from (table_in table.now)) (starts (operator (table_in table.now)) table.now.sizes.operators at)) }
 {
+    let none = OperatorPlaces {
+        start: 0,
+        effect: 0,
+    };
     let mut all = Operators {
-        starts: [0; 32],
-        effects: [0; 32],
+        places: [none; 32],
         end: at,
     };
     for i in 0..table.sizes.operators as usize {
         let one = check_operator(table, all.end)?;
-        all.starts[i] = all.end;
-        all.effects[i] = one.effect;
+        all.places[i] = OperatorPlaces {
+            start: all.end,
+            effect: one.effect,
+        };
         all.end = one.end;
     }
     Ok(all)

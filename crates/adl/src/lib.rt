@@ -1,10 +1,10 @@
 // Planning tasks in ADL: their tables, and loading them.
 #![tactic(auto)]
 
-pub mod around;
 mod check;
 mod declare;
-mod head;
+pub mod operator_places;
+mod reader;
 pub mod sizes;
 pub mod task;
 pub mod task_table;

@@ -1,19 +1,40 @@
-// The sizes of a task and its two arrays, which have at least as many places as there are entries.
-ghost use Rattle.std.specs.Prelude.{◌≤◌, length};
+// A task table: sizes inside their limits, and as many entries.
+ghost use Rattle.std.specs.Prelude.{◌≡◌, ◌≤◌, IfOk};
+ghost use Rattle.fault.specs.declared.Layer.TheVariants as layer;
+ghost use Rattle.table.specs.Answers.{and_then, lengths_fit, whether};
+ghost use Rattle.adl.specs.Loads.{sizes_fit, given};
 
 use crate::sizes::Sizes;
+use fault::{Fault, Layer};
+use table::Entries;
 
 #[derive(Clone, Copy)]
 pub struct TaskTable<'a> {
     pub sizes: Sizes,
-    pub kinds: &'a [u8],
-    pub operands: &'a [u32],
-    ghost kinded: { sizes.entries ≤ length kinds.now },
-    ghost numbered: { sizes.entries ≤ length operands.now },
+    pub entries: Entries<'a>,
+    ghost whole: { entries.count ≡ sizes.entries },
     ghost objects: { sizes.objects ≤ 32 },
     ghost types: { sizes.types ≤ 32 },
     ghost predicates: { sizes.predicates ≤ 32 },
     ghost facts: { sizes.facts ≤ 4096 },
     ghost operators: { sizes.operators ≤ 32 },
-    ghost entries: { sizes.entries ≤ 16384 },
+    ghost short: { sizes.entries ≤ 16384 },
+}
+
+impl<'a> TaskTable<'a> {
+    ghost use Rattle.adl.specs.Views.{table as table_in};
+
+    // The table that these sizes and arrays make, or the first fault of the sizes and of the arrays' lengths.
+    pub(crate) fn new(
+        sizes: Sizes,
+        kinds: &'a [u8],
+        operands: &'a [u32],
+    ) -> Result<TaskTable<'a>, Fault>
+        ensures same { whether result ≡ and_then (sizes_fit sizes) (lengths_fit layer.Task sizes.entries kinds.now operands.now) }
+        ensures made { IfOk result (λ t. table_in t ≡ given sizes kinds.now operands.now) }
+    {
+        sizes.check()?;
+        let entries = Entries::new(Layer::Task, sizes.entries, kinds, operands)?;
+        Ok(TaskTable { sizes, entries })
+    }
 }

@@ -14,7 +14,8 @@ use Rattle.model.specs.Books as tree
 use Rattle.book.specs.Tables.{Table, most_levels}
 use Rattle.book.specs.Reads.{start, after_start, starts_in, always_true, after_atom, always_in, ground, actions_in, book, goal_place, actions_place}
 use Rattle.book.specs.Groups.{Rises}
-use Rattle.book.specs.Records.{answered, Placed}
+use Rattle.book.specs.Records.{Placed}
+use Rattle.table.specs.Answers.{whether}
 use Rattle.book.specs.Views.{answer}
 use Rattle.book.proofs.Atoms.{rises}
 use Rattle.book.proofs.Reaching.{reached, reaches_series, reaches_start}
@@ -28,11 +29,11 @@ done_refused (good b j) f e = absurd (let z : ◌≡◌ {A = ℕ} 0 1 = cc in om
 
 -- what a check of all entries promises of its answer
 pub record CheckedAll (t : Table) (r : Result ℕ Fault) : Type 0 where
-  pub same : answered r ≡ done layer.Book (book t)
+  pub same : whether r ≡ done layer.Book (book t)
   pub placed : IfOk r (Placed t)
 
 pub all_refused : (t : Table) (r : Result ℕ Fault) (f : Fault) → r ≡ Err f → Err f ≡ answer (book t) → CheckedAll t r
-all_refused t r f e h = record { same = ap answered e ∙ done_refused (book t) f h; placed = made_refused (Placed t) r f e }
+all_refused t r f e h = record { same = ap whether e ∙ done_refused (book t) f h; placed = made_refused (Placed t) r f e }
 
 module _ (t : Table) where
   pub starts_refused : (f : Fault) → Err f ≡ answer (starts_in t) → Err f ≡ answer (book t)

@@ -2,6 +2,7 @@
 use Rattle.std.specs.Prelude.{ℕ, ◌+◌, Bool, true, ◌||◌, List, [], length, Ok, ◌==◌, nat_lt}
 use Rattle.fault.specs.declared.Layer.TheVariants as layer
 use Rattle.table.specs.Reading.{Out, bad, good}
+use Rattle.table.specs.Answers as read
 use Rattle.table.specs.Answers.{Answer, done, refuse_if, and_then, is_good}
 use Rattle.model.specs.Settling.{known}
 use Rattle.model.specs.Books as tree
@@ -21,7 +22,7 @@ sizes_fit z =
 
 -- each array has at least as many places as there are entries, kinds first
 abbrev pub lengths_fit : ℕ → List ℕ → List ℕ → Answer
-lengths_fit e ks os = refuse_if layer.Book (nat_lt (length ks) e) 2 (length ks) (refuse_if layer.Book (nat_lt (length os) e) 2 (length os) (Ok tt))
+lengths_fit = read.lengths_fit layer.Book
 
 -- the table that these sizes and arrays make
 abbrev pub given : Sizes → List ℕ → List ℕ → Table

@@ -1,14 +1,8 @@
 -- What a check of all entries gives.
-use Rattle.std.specs.Prelude.{◌≡◌, ℕ, true, Ok, Err, Result}
-use Rattle.fault.specs.declared.Fault.{Fault}
-use Rattle.table.specs.Answers.{Answer}
+use Rattle.std.specs.Prelude.{◌≡◌, ℕ, true}
 use Rattle.book.specs.Tables.{Table}
 use Rattle.book.specs.Reads.{actions_place}
 use Rattle.book.specs.Opens.{accepted}
-
-abbrev pub answered : Result ℕ Fault → Answer
-answered (Ok p) = Ok tt
-answered (Err f) = Err f
 
 -- a book stands in the table, and its actions begin at this place
 pub record Placed (t : Table) (p : ℕ) : Type 0 where

@@ -1,13 +1,14 @@
 // Checking the effects of actions.
 ghost use Rattle.std.specs.Prelude.{◌≡◌, ◌+◌, ◌-◌, ◌≤◌};
 ghost use Rattle.book.specs.Reads.{literal_by, literal, literals, clause, effect};
-ghost use Rattle.book.specs.Views.{table as table_in, answer, coded};
+ghost use Rattle.table.specs.Entries.{coded};
+ghost use Rattle.book.specs.Views.{table as table_in, answer};
 
 use crate::book_table::BookTable;
 use crate::check::check_ground;
-use crate::head::{Head, head_at, refuse};
-use fault::{Cause, Fault};
-use table::{Kind, Place};
+use crate::head::head_at;
+use fault::{Cause, Fault, Layer};
+use table::{Head, Kind, Place};
 
 // What follows the first entry of a literal.
 fn check_literal_by(table: &BookTable, levels: u32, head: Head, next: usize) -> Result<usize, Fault>
@@ -37,7 +38,7 @@ fn check_literals(table: &BookTable, at: usize) -> Result<usize, Fault>
 {
     let head = head_at(table, Place::Literals, 511, at)?;
     if head.operand == 0 {
-        return Err(refuse(Cause::OperandOutOfRange, at));
+        return Err(Fault::new(Cause::OperandOutOfRange, Layer::Book, at as u64));
     }
     let mut next = at + 1;
     for _k in 0..head.operand {

@@ -36,11 +36,11 @@ pub(crate) fn end_of_name(table: &BookTable, at: usize) -> usize
 // The name from place `at` to place `end`.
 pub(crate) fn name_at<'a>(table: &BookTable<'a>, at: usize, end: usize) -> Name<'a>
     requires { (at < end) × (end ≤ table.now.sizes.entries) }
-    ensures { name_of result ≡ name_in table.now.operands.now at end }
+    ensures { name_of result ≡ name_in table.now.entries.operands.now at end }
 {
     Name {
-        operator: table.operands[at],
-        objects: &table.operands[at + 1..end],
+        operator: table.entries.operands[at],
+        objects: &table.entries.operands[at + 1..end],
     }
 }
 

@@ -3,12 +3,13 @@ ghost use Rattle.std.specs.Prelude.{◌≡◌, ℕ, ◌+◌, ◌-◌, ◌<◌, �
 ghost use Rattle.model.specs.Lists.{has, position};
 ghost use Rattle.book.specs.Reads.{starts_in, always_in};
 ghost use Rattle.book.specs.Groups.{Rises, rising_entry};
-ghost use Rattle.book.specs.Views.{table as table_in, answer, all_coded, heading};
+ghost use Rattle.table.specs.Entries.{all_coded};
+ghost use Rattle.book.specs.Views.{table as table_in, answer, heading};
 
 use crate::book_table::BookTable;
-use crate::head::{Head, head_at, refuse};
-use fault::{Cause, Fault};
-use table::Place;
+use crate::head::head_at;
+use fault::{Cause, Fault, Layer};
+use table::{Head, Place};
 
 // Where the atom stands among atoms that rise.
 pub(crate) fn place_of(atoms: &[u32], atom: u32) -> Option<usize>
@@ -50,7 +51,7 @@ fn check_atom(table: &BookTable, place: Place, low: u64, at: usize) -> Result<He
 {
     let head = head_at(table, place, 513, at)?;
     if (head.operand as u64) < low {
-        return Err(refuse(Cause::NotRising, at));
+        return Err(Fault::new(Cause::NotRising, Layer::Book, at as u64));
     }
     Ok(head)
 }
@@ -68,17 +69,17 @@ pub(crate) fn check_relevant(table: &BookTable) -> Result<usize, Fault>
 
 // The atoms that are always true, from place `from`.
 pub(crate) fn check_always(table: &BookTable, from: usize) -> Result<usize, Fault>
-    requires long { table.now.sizes.relevant ≤ length table.now.operands.now }
-    requires rising { Rises (take table.now.sizes.relevant table.now.operands.now) }
+    requires long { table.now.sizes.relevant ≤ length table.now.entries.operands.now }
+    requires rising { Rises (take table.now.sizes.relevant table.now.entries.operands.now) }
     ensures { result ≡ answer (always_in (table_in table.now) from) }
 {
-    let relevant = &table.operands[0..table.sizes.relevant as usize];
+    let relevant = &table.entries.operands[0..table.sizes.relevant as usize];
     let mut low = 0;
     let mut at = from;
     for _k in 0..table.sizes.always {
         let head = check_atom(table, Place::Always, low, at)?;
         if has_atom(relevant, head.operand) {
-            return Err(refuse(Cause::NotRising, at));
+            return Err(Fault::new(Cause::NotRising, Layer::Book, at as u64));
         }
         low = head.operand as u64 + 1;
         at += 1;

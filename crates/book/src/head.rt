@@ -1,38 +1,19 @@
 // One entry of a book table: what may stand at its place.
 ghost use Rattle.std.specs.Prelude.{◌≡◌, ◌<◌, OnOk};
-ghost use Rattle.fault.specs.declared.Layer.TheVariants as layer;
-ghost use Rattle.table.specs.Kinds.{code_of};
-ghost use Rattle.table.specs.Reading.{entry};
+ghost use Rattle.table.specs.Entries.{coded, all_coded};
 ghost use Rattle.book.specs.Tables.{in_range, head};
-ghost use Rattle.book.specs.Views.{table as table_in, all_coded, heading};
+ghost use Rattle.book.specs.Views.{table as table_in, heading};
 
 use crate::book_table::BookTable;
 use fault::{Cause, Fault, Layer};
-use table::{Kind, Place, permits};
-
-// An entry with its kind.
-#[derive(Clone, Copy)]
-pub struct Head {
-    pub kind: Kind,
-    pub operand: u32,
-}
-
-// A refusal of a table.
-pub(crate) fn refuse(cause: Cause, at: usize) -> Fault
-    ensures { result ≡ record { cause = cause; layer = layer.Book; place = at } }
-{
-    Fault {
-        cause,
-        layer: Layer::Book,
-        place: at as u64,
-    }
-}
+use table::{Head, Kind, Place};
 
 // Whether the operand is in the range of its kind.
-fn is_in_range(table: &BookTable, kind: Kind, operand: u32) -> bool
-    ensures { result ≡ in_range (table_in table.now) (entry (code_of kind) operand) }
+fn is_in_range(table: &BookTable, head: Head) -> bool
+    ensures { result ≡ in_range (table_in table.now) (coded head) }
 {
-    match kind {
+    let operand = head.operand;
+    match head.kind {
         Kind::And | Kind::Or => true,
         Kind::Fact => operand < table.sizes.relevant,
         Kind::Action => operand < 32,
@@ -52,21 +33,12 @@ pub(crate) fn head_at(
     ensures inside { OnOk result (at < table.now.sizes.entries) }
     ensures room { OnOk result (0 < levels) }
 {
-    if at >= table.sizes.entries as usize {
-        return Err(refuse(Cause::EntriesMismatch, at));
-    }
-    let Ok(kind) = Kind::try_from(table.kinds[at]) else {
-        return Err(refuse(Cause::KindNotPermitted, at));
-    };
-    let operand = table.operands[at];
-    if !permits(place, kind) {
-        return Err(refuse(Cause::KindNotPermitted, at));
-    }
+    let head = table.entries.head_at(Layer::Book, place, at)?;
     if levels == 0 {
-        return Err(refuse(Cause::TooLongOrDeep, at));
+        return Err(Fault::new(Cause::TooLongOrDeep, Layer::Book, at as u64));
     }
-    if !is_in_range(table, kind, operand) {
-        return Err(refuse(Cause::OperandOutOfRange, at));
+    if !is_in_range(table, head) {
+        return Err(Fault::new(Cause::OperandOutOfRange, Layer::Book, at as u64));
     }
-    Ok(Head { kind, operand })
+    Ok(head)
 }

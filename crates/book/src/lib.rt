@@ -7,7 +7,7 @@ mod check;
 mod effects;
 mod find;
 mod groups;
-pub mod head;
+mod head;
 mod names;
 mod opening;
 pub mod sizes;

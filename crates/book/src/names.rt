@@ -9,8 +9,8 @@ ghost use Rattle.book.specs.Views.{table as table_in, answer};
 use crate::book_table::BookTable;
 use crate::check::check_ground;
 use crate::effects::check_effect;
-use crate::head::{head_at, refuse};
-use fault::{Cause, Fault};
+use crate::head::head_at;
+use fault::{Cause, Fault, Layer};
 use table::{Kind, Place};
 
 // The objects from place `at`, of which `room` more may come: the place after them.
@@ -20,11 +20,11 @@ pub(crate) fn check_objects(table: &BookTable, room: u32, at: usize) -> Result<u
     if at >= table.sizes.entries as usize {
         return Ok(at);
     }
-    if table.kinds[at] != Kind::Object as u8 {
+    if table.entries.kinds[at] != Kind::Object as u8 {
         return Ok(at);
     }
-    if room == 0 || table.operands[at] >= 32 {
-        return Err(refuse(Cause::OperandOutOfRange, at));
+    if room == 0 || table.entries.operands[at] >= 32 {
+        return Err(Fault::new(Cause::OperandOutOfRange, Layer::Book, at as u64));
     }
     check_objects(table, room - 1, at + 1)
 }
@@ -48,12 +48,12 @@ pub(crate) fn precedes(a: &[u32], b: &[u32]) -> bool
 fn check_name(table: &BookTable, before: &[u32], at: usize) -> Result<usize, Fault>
     ensures same { result ≡ answer (name (table_in table.now) before.now at) }
     ensures inside { IfOk result (λ j. (at < j) × (j ≤ table.now.sizes.entries)) }
-    ensures text { IfOk result (λ j. name (table_in table.now) before.now at ≡ good (name_in table.now.operands.now at j) j) }
+    ensures text { IfOk result (λ j. name (table_in table.now) before.now at ≡ good (name_in table.now.entries.operands.now at j) j) }
 {
     let _ = head_at(table, Place::Action, 513, at)?;
     let end = check_objects(table, 4, at + 1)?;
-    if !precedes(before, &table.operands[at..end]) {
-        return Err(refuse(Cause::NotRising, end - 1));
+    if !precedes(before, &table.entries.operands[at..end]) {
+        return Err(Fault::new(Cause::NotRising, Layer::Book, end as u64 - 1));
     }
     Ok(end)
 }
@@ -67,7 +67,7 @@ pub(crate) fn check_actions(table: &BookTable, from: usize) -> Result<usize, Fau
     let mut start = 0;
     let mut end = 0;
     for _k in 0..table.sizes.actions {
-        let named = check_name(table, &table.operands[start..end], at)?;
+        let named = check_name(table, &table.entries.operands[start..end], at)?;
         start = at;
         end = named;
         let effect = check_ground(table, 513, named)?;

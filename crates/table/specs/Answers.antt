@@ -1,5 +1,5 @@
 -- What the code answers where a table is read: the first fault, which arose in some layer, or the place after what was read.
-use Rattle.std.specs.Prelude.{ℕ, Bool, true, false, cond, Ok, Err, Result}
+use Rattle.std.specs.Prelude.{ℕ, Bool, true, false, cond, List, length, Ok, Err, Result, nat_lt}
 use Rattle.fault.specs.declared.Fault.{Fault}
 use Rattle.fault.specs.declared.Layer.{Layer}
 use Rattle.fault.specs.Faults.{refusal}
@@ -37,3 +37,12 @@ and_then (Err f) next = Err f
 abbrev pub is_good : {A : Type 0} → Out A → Bool
 is_good (bad n p) = false
 is_good (good x j) = true
+
+-- each array has at least as many places as there are entries, kinds first
+abbrev pub lengths_fit : Layer → ℕ → List ℕ → List ℕ → Answer
+lengths_fit l e ks os = refuse_if l (nat_lt (length ks) e) 2 (length ks) (refuse_if l (nat_lt (length os) e) 2 (length os) (Ok tt))
+
+-- nothing but whether there is a value
+abbrev pub whether : {A : Type 0} → Result A Fault → Answer
+whether (Ok x) = Ok tt
+whether (Err f) = Err f

@@ -3,3 +3,4 @@ pub mod Permits
 pub mod Powers
 pub mod Reading
 pub mod Answers
+pub mod Entries

@@ -4,6 +4,8 @@ ghost use Rattle.table.specs.Kinds.{code_of};
 
 use crate::kind::Kind;
 
+// Loops by index: what array::from_fn and a zip promise of an element was longer to prove, as each speaks of a closure's or an iterator's state.
+
 // The codes of the kinds.
 pub fn kinds_of<const N: usize>(entries: &[(Kind, u32); N]) -> [u8; N]
     ensures { (k : ℕ) → k < N → slice_index result k ≡ code_of (slice_index_or entries.now k (Kind.True, 0)).0 }

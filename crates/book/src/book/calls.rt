@@ -5,9 +5,10 @@ ghost use Rattle.book.specs.Held.{held, tree_of};
 
 use super::Book;
 use crate::book_table::BookTable;
-use crate::opening::{check_entries, check_lengths, check_sizes};
+use crate::opening::check_entries;
 use crate::sizes::Sizes;
 use fault::Fault;
+use table::Entries;
 
 impl<'a> Book<'a> {
     // A record that holds one entry, TRUE, and no atoms.
@@ -21,28 +22,23 @@ impl<'a> Book<'a> {
             actions: 0,
             entries: 1,
         };
-        let table = BookTable {
-            sizes,
+        let entries = Entries {
+            count: 1,
             kinds: &[0],
             operands: &[0],
         };
         Book {
-            table,
+            table: BookTable { sizes, entries },
             actions_at: 1,
         }
     }
+
     // Fills the record with the book that stands in the arrays; a refusal leaves it as it was.
     pub fn open(&mut self, sizes: Sizes, kinds: &'a [u8], operands: &'a [u32]) -> Result<(), Fault>
         ensures answers { result ≡ opens sizes kinds.now operands.now }
         ensures fills { MatchResult result (λ _. held self.new ≡ given sizes kinds.now operands.now) (λ _. self.new ≡ self.old) }
     {
-        check_sizes(sizes)?;
-        check_lengths(sizes.entries as usize, kinds, operands)?;
-        let table = BookTable {
-            sizes,
-            kinds,
-            operands,
-        };
+        let table = BookTable::new(sizes, kinds, operands)?;
         let actions_at = check_entries(&table)?;
         *self = Book { table, actions_at };
         Ok(())

@@ -51,7 +51,7 @@ impl<'a> Book<'a> {
         ensures { result ≡ fact_in (tree_of self.now) atom }
     {
         match place_of(
-            &self.table.operands[0..self.table.sizes.relevant as usize],
+            &self.table.entries.operands[0..self.table.sizes.relevant as usize],
             atom,
         ) {
             Some(place) => Some(place as u32),
@@ -65,7 +65,7 @@ impl<'a> Book<'a> {
     {
         let from = self.table.sizes.relevant as usize;
         let to = from + self.table.sizes.always as usize;
-        has_atom(&self.table.operands[from..to], atom)
+        has_atom(&self.table.entries.operands[from..to], atom)
     }
 
     // How many atoms the task has.

@@ -10,13 +10,13 @@ pub returns-in_err-next : goal.returns-in_err-next
 returns-in_err-next c =
     let p = err_from_is_err_and c.from_residual.result c.from_residual.ensures.1 in
     p.1 ∙ ap Err p.2
-    ∙ many_refused layer.Task (fact (table c.args.table.now)) (c.args.table.now.sizes.facts - c.loop-k._k) c.loop-k.next c.in_err-next.field-0.0 (omega arith) c.in_err-next.ensures
-    ∙ c.loop-k.invariant
+    ∙ many_refused layer.Task (fact (table c.args.table.now)) (c.args.table.now.sizes.facts - c.loop.counter) c.loop.next c.in_err-next.field-0.0 (omega arith) c.in_err-next.ensures
+    ∙ c.loop.invariant
 
-pub loop-k-preserved : goal.loop-k-preserved
-loop-k-preserved c =
-    many_turn layer.Task (fact (table c.args.table.now)) c.args.table.now.sizes.facts c.loop-k._k c.loop-k.next c.in_ok-next.next (omega arith) c.in_ok-next.ensures
-    ∙ c.loop-k.invariant
+pub loop-preserved : goal.loop-preserved
+loop-preserved c =
+    many_turn layer.Task (fact (table c.args.table.now)) c.args.table.now.sizes.facts c.loop.counter c.loop.next c.in_ok-next.next (omega arith) c.in_ok-next.ensures
+    ∙ c.loop.invariant
 
 pub returns : goal.returns
-returns c = sym (many_over layer.Task (fact (table c.args.table.now)) (c.args.table.now.sizes.facts - c.loop-k._k) c.loop-k.next (omega arith)) ∙ c.loop-k.invariant
+returns c = sym (many_over layer.Task (fact (table c.args.table.now)) (c.args.table.now.sizes.facts - c.loop.counter) c.loop.next (omega arith)) ∙ c.loop.invariant

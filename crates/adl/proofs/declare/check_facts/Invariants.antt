@@ -5,7 +5,7 @@ use Rattle.adl.specs.Views.{table, answer}
 use Rattle.adl.proofs.declare.check_facts.Given as goal
 
 -- the facts that are left, read from here, answer as all facts do
-abbrev pub invariant-loop-k : goal.invariant-loop-k
-invariant-loop-k l =
-    answer (many (fact (table l.table)) (l.table.sizes.facts - l._k) l.next)
+abbrev pub invariant-loop : goal.invariant-loop
+invariant-loop l =
+    answer (many (fact (table l.table)) (l.table.sizes.facts - l.counter) l.next)
     ≡ answer (many (fact (table l.table)) l.table.sizes.facts l.at)

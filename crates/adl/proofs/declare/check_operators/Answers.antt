@@ -1,12 +1,13 @@
-use Rattle.std.proofs.Common.{◌≡◌, ◌-◌, ◌<◌, length, Err, sym, ap, ◌∙◌, arith, length-set}
+use Rattle.std.proofs.Common.{◌-◌, ◌<◌, map, length, Err, sym, ap, ◌∙◌, arith, length-set}
 use Rattle.std.proofs.lemmas.Result.{err_from_is_err_and}
 use Rattle.table.specs.Reading.{starts}
-use Rattle.adl.specs.Reads.{operator, effect_place}
+use Rattle.adl.specs.Reads.{operator}
+use Rattle.adl.specs.Kept.{places_from}
 use Rattle.adl.specs.Views.{table}
 use Rattle.adl.specs.Ends.{operators_end}
 use Rattle.fault.specs.declared.Layer.TheVariants as layer
 use Rattle.table.proofs.Answering.{place_after, many_refused, many_turn, many_over, made_refused}
-use Rattle.adl.proofs.Operators.{starts_noted, others_noted, all_starts_noted, all_others_noted}
+use Rattle.adl.proofs.Operators.{noted, all_noted}
 use Rattle.adl.proofs.declare.check_operators.Goals as goal
 
 pub returns-in_err-one : goal.returns-in_err-one
@@ -16,8 +17,7 @@ returns-in_err-one c =
     let e = p.1 ∙ ap Err p.2 in
     record {
       same = ap operators_end e ∙ many_refused layer.Task (operator t) (t.operators - c.loop-i.i) c.loop-i.all.end c.in_err-one.field-0.0 (omega arith) c.in_err-one.ensures.same ∙ c.loop-i.invariant.0;
-      starts = made_refused _ _ _ e;
-      effects = made_refused _ _ _ e;
+      places = made_refused _ _ _ e;
     }
 
 pub loop-i-preserved : goal.loop-i-preserved
@@ -26,27 +26,19 @@ loop-i-preserved c =
     let i = c.loop-i.i in
     let from = c.loop-i.all.end in
     let to = c.in_ok-one.one.end in
-    let ss = c.loop-i.all.starts in
-    let es = c.loop-i.all.effects in
+    let ps = c.loop-i.all.places in
     let h = c.in_ok-one.ensures in
-    let n : i < length ss = omega arith in
-    let m : i < length es = omega arith in (
+    let n : i < length ps = omega arith in (
       many_turn layer.Task (operator t) t.operators i from to c.loop-i-test.true h.same ∙ c.loop-i.invariant.0,
-      starts_noted (operator t) t.operators i from to ss (starts (operator t) t.operators c.args.at) c.loop-i-test.true n (place_after layer.Task (operator t from) to h.same) c.loop-i.invariant.1,
-      others_noted (effect_place t) i from c.in_ok-one.one.effect ss es n m h.effect c.loop-i.invariant.2,
-      length-set ss i from ∙ c.loop-i.invariant.3,
-      length-set es i c.in_ok-one.one.effect ∙ c.loop-i.invariant.4,
+      noted (operator t) (places_from t) t.operators i from to (record { start = from; effect = c.in_ok-one.one.effect }) ps (map (places_from t) (starts (operator t) t.operators c.args.at)) c.loop-i-test.true n (ap (λ x. record { start = from; effect = x }) h.effect) (place_after layer.Task (operator t from) to h.same) c.loop-i.invariant.1,
+      length-set ps i _ ∙ c.loop-i.invariant.2,
     )
 
 pub returns : goal.returns
 returns c =
     let t = table c.args.table.now in
     let i = c.loop-i.i in
-    let n : i ≡ t.operators = omega arith in
-    let whole = starts (operator t) t.operators c.args.at in
-    let noted = all_starts_noted (operator t) t.operators i c.loop-i.all.end c.loop-i.all.starts whole n c.loop-i.invariant.1 in
     record {
       same = sym (many_over layer.Task (operator t) (t.operators - i) c.loop-i.all.end (omega arith)) ∙ c.loop-i.invariant.0;
-      starts = noted;
-      effects = all_others_noted (effect_place t) t.operators i c.loop-i.all.starts c.loop-i.all.effects whole n noted c.loop-i.invariant.2;
+      places = all_noted (operator t) (places_from t) t.operators i c.loop-i.all.end c.loop-i.all.places (map (places_from t) (starts (operator t) t.operators c.args.at)) (omega arith) c.loop-i.invariant.1;
     }

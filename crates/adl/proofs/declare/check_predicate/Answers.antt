@@ -2,7 +2,9 @@ use Rattle.std.proofs.Common.{◌≡◌, ◌+◌, ◌^◌, ◌≤◌, sym, ap, �
 use Rattle.table.specs.Reading.{good}
 use Rattle.table.specs.declared.places.Place.TheVariants as place
 use Rattle.adl.specs.Tables.{head}
-use Rattle.adl.specs.Views.{table, coded, answer, heading}
+use Rattle.adl.specs.Views.{table, answer, heading}
+use Rattle.table.specs.Entries.{coded}
+use Rattle.adl.proofs.Heads.{alike}
 use Rattle.adl.proofs.Declared.{power_found, predicate_goes}
 use Rattle.adl.proofs.declare.check_predicate.Goals as goal
 
@@ -17,7 +19,7 @@ returns c =
     let o = c.in_ok-head.head.operand in
     let w = power_found t.objects o c.in-Some.own c.in-Some.ensures in
     let few : c.args.before + t.objects ^ o ≤ 65536 = omega (arith, w.0) in
-    let r = predicate_goes t c.args.before c.args.at (coded c.in_ok-head.head) (c.in_ok-head.ensures.same ∙ ap (λ a. heading (head t place.Predicate a c.args.at)) c.outermost.ensures) few in
+    let r = predicate_goes t c.args.before c.args.at (coded c.in_ok-head.head) (c.in_ok-head.ensures.same ∙ alike (λ t a. heading (head t place.Predicate a c.args.at)) c.outermost.ensures.table c.outermost.ensures.around) few in
     record {
       same = sym (ap (λ x. answer x) r);
       counted = λ a j e. let q : good o (c.args.at + 1) ≡ good a j = sym r ∙ e in let z : o ≡ a = cc in ap (λ x. c.args.before + x) w.0 ∙ ap (λ x. c.args.before + t.objects ^ x) z;

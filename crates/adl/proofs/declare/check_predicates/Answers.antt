@@ -9,8 +9,8 @@ use Rattle.table.proofs.Answering.{series_refused, series_over, made_refused}
 use Rattle.adl.proofs.Declared.{predicates_turn, counts_none, counts_turn, counts_all}
 use Rattle.adl.proofs.declare.check_predicates.Goals as goal
 
-pub loop-k-init : goal.loop-k-init
-loop-k-init c =
+pub loop-init : goal.loop-init
+loop-init c =
     let t = table c.args.table.now in
     let n : t.predicates - 0 ≡ t.predicates = omega arith in
     (omega arith, ap (λ x. answer (series (predicate t) (with_atoms t) x 0 c.args.at)) n, counts_none t 0 c.args.at t.predicates refl)
@@ -21,28 +21,28 @@ returns-in_err-so_far c =
     let p = err_from_is_err_and c.from_residual.result c.from_residual.ensures.1 in
     let e = p.1 ∙ ap Err p.2 in
     record {
-      same = ap predicates_end e ∙ series_refused layer.Task (predicate t) (with_atoms t) (t.predicates - c.loop-k._k) c.loop-k.so_far.atoms c.loop-k.so_far.end c.in_err-so_far.field-0.0 (omega arith) c.in_err-so_far.ensures.same ∙ c.loop-k.invariant.1;
+      same = ap predicates_end e ∙ series_refused layer.Task (predicate t) (with_atoms t) (t.predicates - c.loop.counter) c.loop.so_far.atoms c.loop.so_far.end c.in_err-so_far.field-0.0 (omega arith) c.in_err-so_far.ensures.same ∙ c.loop.invariant.1;
       counted = made_refused _ _ _ e;
       few = made_refused _ _ _ e;
     }
 
-pub loop-k-preserved : goal.loop-k-preserved
-loop-k-preserved c =
+pub loop-preserved : goal.loop-preserved
+loop-preserved c =
     let t = table c.args.table.now in
-    let s = c.loop-k.so_far in
+    let s = c.loop.so_far in
     let r = c.in_ok-so_far.so_far in
     let f = c.in_ok-so_far.ensures in (
       f.few,
-      predicates_turn t t.predicates c.loop-k._k s.atoms s.end r.atoms r.end (omega arith) f.same f.counted ∙ c.loop-k.invariant.1,
-      counts_turn t t.predicates c.loop-k._k s.atoms s.end r.atoms r.end (series (predicate t) (with_atoms t) t.predicates 0 c.args.at) (omega arith) f.same f.counted c.loop-k.invariant.2,
+      predicates_turn t t.predicates c.loop.counter s.atoms s.end r.atoms r.end (omega arith) f.same f.counted ∙ c.loop.invariant.1,
+      counts_turn t t.predicates c.loop.counter s.atoms s.end r.atoms r.end (series (predicate t) (with_atoms t) t.predicates 0 c.args.at) (omega arith) f.same f.counted c.loop.invariant.2,
     )
 
 pub returns : goal.returns
 returns c =
     let t = table c.args.table.now in
-    let s = c.loop-k.so_far in
+    let s = c.loop.so_far in
     record {
-      same = sym (series_over layer.Task (predicate t) (with_atoms t) (t.predicates - c.loop-k._k) s.atoms s.end (omega arith)) ∙ c.loop-k.invariant.1;
-      counted = counts_all t (t.predicates - c.loop-k._k) s.atoms s.end (series (predicate t) (with_atoms t) t.predicates 0 c.args.at) (omega arith) c.loop-k.invariant.2;
-      few = c.loop-k.invariant.0;
+      same = sym (series_over layer.Task (predicate t) (with_atoms t) (t.predicates - c.loop.counter) s.atoms s.end (omega arith)) ∙ c.loop.invariant.1;
+      counted = counts_all t (t.predicates - c.loop.counter) s.atoms s.end (series (predicate t) (with_atoms t) t.predicates 0 c.args.at) (omega arith) c.loop.invariant.2;
+      few = c.loop.invariant.0;
     }

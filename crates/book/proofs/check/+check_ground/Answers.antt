@@ -3,7 +3,8 @@ use Rattle.std.proofs.lemmas.Result.{err_from_is_err_and}
 use Rattle.fault.specs.declared.Layer.TheVariants as layer
 use Rattle.table.proofs.Answering.{many_refused, many_turn, many_over}
 use Rattle.book.specs.Reads.{ground}
-use Rattle.book.specs.Views.{table, coded}
+use Rattle.table.specs.Entries.{coded}
+use Rattle.book.specs.Views.{table}
 use Rattle.book.proofs.Parts.{ground_refused, ground_goes, after_not, after_junction, after_leaf}
 use Rattle.book.proofs.check.+check_ground.Goals as goal
 

@@ -5,7 +5,8 @@ use Rattle.table.specs.declared.places.Place.TheVariants as place
 use Rattle.table.specs.Reading.{many}
 use Rattle.table.proofs.Answering.{many_refused, many_turn, many_over}
 use Rattle.book.specs.Reads.{clause}
-use Rattle.book.specs.Views.{table, coded}
+use Rattle.table.specs.Entries.{coded}
+use Rattle.book.specs.Views.{table}
 use Rattle.book.proofs.Heading.{head_goes}
 use Rattle.book.proofs.effects.check_effect.Goals as goal
 

@@ -1,7 +1,8 @@
 use Rattle.std.proofs.Common.{◌∙◌}
 use Rattle.table.specs.declared.places.Place.TheVariants as place
 use Rattle.book.specs.Reads.{literal_by}
-use Rattle.book.specs.Views.{table, coded}
+use Rattle.table.specs.Entries.{coded}
+use Rattle.book.specs.Views.{table}
 use Rattle.book.proofs.Heading.{head_goes}
 use Rattle.book.proofs.effects.check_literal.Goals as goal
 

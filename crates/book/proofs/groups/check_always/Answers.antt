@@ -5,7 +5,8 @@ use Rattle.table.proofs.Answering.{series_refused, series_turn, series_over}
 use Rattle.model.specs.Lists.{has}
 use Rattle.book.specs.Reads.{is_listed, always_true, after_atom}
 use Rattle.book.specs.Groups.{Rises}
-use Rattle.book.specs.Views.{table, coded}
+use Rattle.table.specs.Entries.{coded}
+use Rattle.book.specs.Views.{table}
 use Rattle.book.proofs.Atoms.{from_first, always_refused, always_listed, always_goes}
 use Rattle.book.proofs.groups.check_always.Goals as goal
 
@@ -20,14 +21,14 @@ returns-in_err-head c =
 pub has_atom-requires : goal.has_atom-requires
 has_atom-requires c =
     let P : List ℕ → Type 0 = λ xs. Rises xs in
-    subst P (sym (from_first c.args.table.now.sizes.relevant c.args.table.now.operands.now)) c.requires.rising
+    subst P (sym (from_first c.args.table.now.sizes.relevant c.args.table.now.entries.operands.now)) c.requires.rising
 
 pub returns-then-has_atom : goal.returns-then-has_atom
 returns-then-has_atom c =
     let t = table c.args.table.now in
     let h = c.in_ok-head.head in
     let l : is_listed t h.operand ≡ true = ap (has h.operand) (sym (from_first t.relevant t.operands)) ∙ sym c.has_atom.ensures ∙ c.if-has_atom.true in
-    ap Err c.refuse.ensures
+    ap Err c.new.ensures
     ∙ series_refused layer.Book (always_true t) after_atom (c.args.table.now.sizes.always - c.loop-k._k) c.loop-k.low c.loop-k.at _ (omega arith) (always_listed t c.loop-k.low c.loop-k.at (coded h) c.in_ok-head.ensures.same l)
     ∙ c.loop-k.invariant
 

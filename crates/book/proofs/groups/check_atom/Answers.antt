@@ -1,7 +1,8 @@
 use Rattle.std.proofs.Common.{Err, ap, ◌∙◌}
 use Rattle.std.proofs.lemmas.Result.{err_from_is_err_and}
 use Rattle.table.proofs.Answering.{made_refused}
-use Rattle.book.specs.Views.{table, all_coded, coded}
+use Rattle.table.specs.Entries.{all_coded, coded}
+use Rattle.book.specs.Views.{table}
 use Rattle.book.proofs.Atoms.{head_refuses, too_low, high_enough}
 use Rattle.book.proofs.groups.check_atom.Goals as goal
 
@@ -17,7 +18,7 @@ returns-in_err-head c =
 pub returns-then-head-low : goal.returns-then-head-low
 returns-then-head-low c =
     record {
-      same = ap Err c.refuse.ensures ∙ too_low (table c.args.table.now) c.args.place c.args.low c.args.at (coded c.in_ok-head.head) c.in_ok-head.ensures.same c.if-head-low.true;
+      same = ap Err c.new.ensures ∙ too_low (table c.args.table.now) c.args.place c.args.low c.args.at (coded c.in_ok-head.head) c.in_ok-head.ensures.same c.if-head-low.true;
       inside = tt;
     }
 

@@ -3,7 +3,8 @@ use Rattle.std.proofs.lemmas.Result.{err_from_is_err_and}
 use Rattle.fault.specs.declared.Layer.TheVariants as layer
 use Rattle.table.proofs.Answering.{series_refused, series_turn, series_over}
 use Rattle.book.specs.Reads.{start, after_start}
-use Rattle.book.specs.Views.{table, coded}
+use Rattle.table.specs.Entries.{coded}
+use Rattle.book.specs.Views.{table}
 use Rattle.book.proofs.Atoms.{start_refused, start_goes}
 use Rattle.book.proofs.groups.check_relevant.Goals as goal
 

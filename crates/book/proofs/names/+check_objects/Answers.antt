@@ -14,7 +14,7 @@ pub returns-then-room-eq0 : goal.returns-then-room-eq0
 returns-then-room-eq0 d c =
     let t = table c.args.table.now in
     let here = one_here t c.args.at c.if-at-table.false c.if-table-at.false in
-    ap Err c.refuse.ensures
+    ap Err c.new.ensures
     ∙ elim c.then-room-eq0.branch [
       | then-room-eq0-via-then-room-eq0 w ↦ objects_fifth t c.args.at c.args.room w.if-room-eq0.true here
       | then-room-eq0-via-else-room-eq0+then-table-at-ge32 w ↦ objects_high t c.args.at c.args.room w.if-table-at-ge32.true here

@@ -1,3 +1,4 @@
+use Rattle.table.proofs.Lengths.{operands_long}
 use Rattle.std.proofs.Common.{◌+◌, ◌-◌, ◌<◌, length, Err, sym, ap, ◌∙◌, arith}
 use Rattle.std.specs.List.{between}
 use Rattle.std.proofs.lemmas.Result.{err_from_is_err_and}
@@ -47,9 +48,9 @@ loop-k-preserved c =
     let j = c.in_ok-named.named in
     let e = c.in_ok-at.at in
     let f = c.in_ok-named.ensures.inside in
-    let l : i < length t.operands = omega (arith, f.0, f.1, c.args.table.now.numbered) in (
+    let l : i < length t.operands = omega (arith, f.0, f.1, (operands_long c.args.table.now.entries c.args.table.now.whole)) in (
       omega (arith, f.0),
-      omega (arith, f.1, c.args.table.now.numbered),
+      omega (arith, f.1, (operands_long c.args.table.now.entries c.args.table.now.whole)),
       ap (λ x. answer (series (action t) after_action (t.actions - (c.loop-k._k + 1)) x e)) (sym (listed_in t.operands i j f.0 l))
           ∙ action_turn t t.actions c.loop-k._k b i (omega arith) (name_in t.operands i j) j c.in_ok-named.ensures.text c.in_ok-effect.effect c.in_ok-effect.ensures e c.in_ok-at.ensures
           ∙ c.loop-k.invariant.2,

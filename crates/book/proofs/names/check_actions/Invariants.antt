@@ -9,6 +9,6 @@ use Rattle.book.proofs.names.check_actions.Given as goal
 abbrev pub invariant-loop-k : goal.invariant-loop-k
 invariant-loop-k l =
     (l.start ≤ l.end)
-    × (l.end ≤ length l.table.operands.now)
-    × (answer (series (action (table l.table)) after_action (l.table.sizes.actions - l._k) (between l.start l.end l.table.operands.now) l.at)
+    × (l.end ≤ length l.table.entries.operands.now)
+    × (answer (series (action (table l.table)) after_action (l.table.sizes.actions - l._k) (between l.start l.end l.table.entries.operands.now) l.at)
     ≡ answer (series (action (table l.table)) after_action l.table.sizes.actions [] l.from))

@@ -1,7 +1,9 @@
+use Rattle.table.proofs.Lengths.{operands_long}
 use Rattle.std.proofs.Common.{Err, sym, ap, ◌∙◌, arith}
 use Rattle.std.proofs.lemmas.Result.{err_from_is_err_and}
 use Rattle.table.proofs.Answering.{made_refused}
-use Rattle.book.specs.Views.{table, coded}
+use Rattle.table.specs.Entries.{coded}
+use Rattle.book.specs.Views.{table}
 use Rattle.book.proofs.Naming.{reached, objects_refused, name_good, name_bad, name_is}
 use Rattle.book.proofs.names.check_name.Goals as goal
 
@@ -17,28 +19,28 @@ returns-in_err-end c =
 
 pub slice_bounds-precedes-count : goal.slice_bounds-precedes-count
 slice_bounds-precedes-count c =
-    let r = reached (table c.args.table.now) c.args.table.now.numbered c.args.before.now c.args.at _ c.in_ok-end.end c.in_ok-head_at.ensures.inside c.in_ok-head_at.ensures.same c.in_ok-end.ensures in
+    let r = reached (table c.args.table.now) (operands_long c.args.table.now.entries c.args.table.now.whole) c.args.before.now c.args.at _ c.in_ok-end.end c.in_ok-head_at.ensures.inside c.in_ok-head_at.ensures.same c.in_ok-end.ensures in
     omega (arith, r.0, r.1)
 
 pub slice_bounds-precedes-start : goal.slice_bounds-precedes-start
 slice_bounds-precedes-start c =
-    let r = reached (table c.args.table.now) c.args.table.now.numbered c.args.before.now c.args.at _ c.in_ok-end.end c.in_ok-head_at.ensures.inside c.in_ok-head_at.ensures.same c.in_ok-end.ensures in
+    let r = reached (table c.args.table.now) (operands_long c.args.table.now.entries c.args.table.now.whole) c.args.before.now c.args.at _ c.in_ok-end.end c.in_ok-head_at.ensures.inside c.in_ok-head_at.ensures.same c.in_ok-end.ensures in
     omega (arith, r.0, r.1)
 
 pub slice_bounds-precedes-end : goal.slice_bounds-precedes-end
 slice_bounds-precedes-end c =
-    let r = reached (table c.args.table.now) c.args.table.now.numbered c.args.before.now c.args.at _ c.in_ok-end.end c.in_ok-head_at.ensures.inside c.in_ok-head_at.ensures.same c.in_ok-end.ensures in
-    omega (arith, r.0, r.1, c.args.table.now.numbered)
+    let r = reached (table c.args.table.now) (operands_long c.args.table.now.entries c.args.table.now.whole) c.args.before.now c.args.at _ c.in_ok-end.end c.in_ok-head_at.ensures.inside c.in_ok-head_at.ensures.same c.in_ok-end.ensures in
+    omega (arith, r.0, r.1, (operands_long c.args.table.now.entries c.args.table.now.whole))
 
 pub overflow_sub-end : goal.overflow_sub-end
 overflow_sub-end c =
-    let r = reached (table c.args.table.now) c.args.table.now.numbered c.args.before.now c.args.at _ c.in_ok-end.end c.in_ok-head_at.ensures.inside c.in_ok-head_at.ensures.same c.in_ok-end.ensures in
+    let r = reached (table c.args.table.now) (operands_long c.args.table.now.entries c.args.table.now.whole) c.args.before.now c.args.at _ c.in_ok-end.end c.in_ok-head_at.ensures.inside c.in_ok-head_at.ensures.same c.in_ok-end.ensures in
     omega (arith, r.0, r.1)
 
 pub returns-then-not-precedes : goal.returns-then-not-precedes
 returns-then-not-precedes c =
     record {
-      same = ap Err c.refuse.ensures ∙ name_bad (table c.args.table.now) c.args.table.now.numbered c.args.before.now c.args.at _ c.in_ok-end.end c.in_ok-head_at.ensures.inside c.in_ok-head_at.ensures.same c.in_ok-end.ensures (sym c.if-not-precedes.ensures);
+      same = ap Err c.new.ensures ∙ name_bad (table c.args.table.now) (operands_long c.args.table.now.entries c.args.table.now.whole) c.args.before.now c.args.at _ c.in_ok-end.end c.in_ok-head_at.ensures.inside c.in_ok-head_at.ensures.same c.in_ok-end.ensures (sym c.if-not-precedes.ensures);
       inside = tt;
       text = tt;
     }
@@ -46,7 +48,7 @@ returns-then-not-precedes c =
 pub returns : goal.returns
 returns c =
     let t = table c.args.table.now in
-    let n = c.args.table.now.numbered in
+    let n = (operands_long c.args.table.now.entries c.args.table.now.whole) in
     let b = c.args.before.now in
     let i = c.in_ok-head_at.ensures.inside in
     let s = c.in_ok-head_at.ensures.same in

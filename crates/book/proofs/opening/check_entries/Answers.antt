@@ -1,3 +1,4 @@
+use Rattle.table.proofs.Lengths.{operands_long}
 use Rattle.std.proofs.Common.{Err, ap, ◌∙◌}
 use Rattle.std.proofs.lemmas.Result.{err_from_is_err_and}
 use Rattle.book.specs.Views.{table}
@@ -16,7 +17,7 @@ check_always-requires c =
     let t = table c.args.table.now in
     let i = c.in_ok-always_at.always_at in
     let e = c.in_ok-always_at.ensures in
-    record { long = relevant_fit t i e c.args.table.now.numbered; rising = relevant_rise t i e c.args.table.now.numbered }
+    record { long = relevant_fit t i e (operands_long c.args.table.now.entries c.args.table.now.whole); rising = relevant_rise t i e (operands_long c.args.table.now.entries c.args.table.now.whole) }
 
 pub returns-in_err-goal_at : goal.returns-in_err-goal_at
 returns-in_err-goal_at c =
@@ -51,7 +52,7 @@ returns-then-end-table c =
     let i = c.in_ok-always_at.always_at in
     let j = c.in_ok-goal_at.goal_at in
     let k = c.in_ok-actions_at.actions_at in
-    let w = all_refused t _ _ (ap Err c.refuse.ensures) (left_over t i c.in_ok-always_at.ensures j c.in_ok-goal_at.ensures k c.in_ok-actions_at.ensures c.in_ok-end.end c.in_ok-end.ensures c.if-end-table.true) in
+    let w = all_refused t _ _ (ap Err c.new.ensures) (left_over t i c.in_ok-always_at.ensures j c.in_ok-goal_at.ensures k c.in_ok-actions_at.ensures c.in_ok-end.end c.in_ok-end.ensures c.if-end-table.true) in
     record { same = w.same; placed = w.placed }
 
 pub returns : goal.returns

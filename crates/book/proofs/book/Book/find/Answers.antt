@@ -1,3 +1,4 @@
+use Rattle.table.proofs.Lengths.{operands_long}
 use Rattle.std.proofs.Common.{sym, ap, ◌∙◌, subst, arith}
 use Rattle.protocol.specs.Names.{name_of}
 use Rattle.model.specs.Trees.{Name}
@@ -14,7 +15,7 @@ end_of_name-end-requires c = some_action (held c.args.self.now) c.args.self.now.
 pub name_at-found-requires : goal.name_at-found-requires
 name_at-found-requires c =
     let b = c.args.self.now in
-    let w = name_inside (held b) b.formed c.loop-k.k c.loop-k.at (omega arith) c.loop-k.invariant.0 b.table.numbered in
+    let w = name_inside (held b) b.formed c.loop-k.k c.loop-k.at (omega arith) c.loop-k.invariant.0 (operands_long b.table.entries b.table.whole) in
     let e = c.end_of_name-end.ensures in
     (omega (arith, w.0, e), omega (arith, w.1, e))
 
@@ -22,19 +23,19 @@ pub returns-then-is_before : goal.returns-then-is_before
 returns-then-is_before c =
     let b = c.args.self.now in
     let m = name_of c.args.name in
-    let e = c.name_at-found.ensures ∙ ap (name_in b.table.operands.now c.loop-k.at) c.end_of_name-end.ensures ∙ name_here (held b) b.formed c.loop-k.k c.loop-k.at (omega arith) c.loop-k.invariant.0 b.table.numbered m in
+    let e = c.name_at-found.ensures ∙ ap (name_in b.table.entries.operands.now c.loop-k.at) c.end_of_name-end.ensures ∙ name_here (held b) b.formed c.loop-k.k c.loop-k.at (omega arith) c.loop-k.invariant.0 (operands_long b.table.entries b.table.whole) m in
     let p = ap (λ (n : Name). precedes (listed m) (listed n)) (sym e) ∙ sym c.is_before-then-not-is_before.ensures ∙ c.if-is_before.true in
-    let w = passed_by (held b) b.formed b.table.numbered m c.loop-k.k (omega arith) c.loop-k.invariant.1 p in
+    let w = passed_by (held b) b.formed (operands_long b.table.entries b.table.whole) m c.loop-k.k (omega arith) c.loop-k.invariant.1 p in
     record { number = w.number; exact = w.exact }
 
 pub returns-else-is_before : goal.returns-else-is_before
 returns-else-is_before c =
     let b = c.args.self.now in
     let m = name_of c.args.name in
-    let e = c.name_at-found.ensures ∙ ap (name_in b.table.operands.now c.loop-k.at) c.end_of_name-end.ensures ∙ name_here (held b) b.formed c.loop-k.k c.loop-k.at (omega arith) c.loop-k.invariant.0 b.table.numbered m in
+    let e = c.name_at-found.ensures ∙ ap (name_in b.table.entries.operands.now c.loop-k.at) c.end_of_name-end.ensures ∙ name_here (held b) b.formed c.loop-k.k c.loop-k.at (omega arith) c.loop-k.invariant.0 (operands_long b.table.entries b.table.whole) m in
     let p = ap (λ (n : Name). precedes (listed n) (listed m)) (sym e) ∙ sym c.is_before.ensures ∙ c.if-not-is_before.true in
     let q = ap (λ (n : Name). precedes (listed m) (listed n)) (sym e) ∙ sym c.is_before-then-not-is_before.ensures ∙ c.if-is_before.false in
-    let w = found (held b) b.formed b.table.numbered m c.loop-k.k (omega arith) p q in
+    let w = found (held b) b.formed (operands_long b.table.entries b.table.whole) m c.loop-k.k (omega arith) p q in
     record { number = w.number; exact = w.exact }
 
 pub end_of_body-at-requires : goal.end_of_body-at-requires
@@ -46,14 +47,14 @@ pub loop-k-preserved : goal.loop-k-preserved
 loop-k-preserved c =
     let b = c.args.self.now in
     let m = name_of c.args.name in
-    let e = c.name_at-found.ensures ∙ ap (name_in b.table.operands.now c.loop-k.at) c.end_of_name-end.ensures ∙ name_here (held b) b.formed c.loop-k.k c.loop-k.at (omega arith) c.loop-k.invariant.0 b.table.numbered m in
+    let e = c.name_at-found.ensures ∙ ap (name_in b.table.entries.operands.now c.loop-k.at) c.end_of_name-end.ensures ∙ name_here (held b) b.formed c.loop-k.k c.loop-k.at (omega arith) c.loop-k.invariant.0 (operands_long b.table.entries b.table.whole) m in
     let p = ap (λ (n : Name). precedes (listed n) (listed m)) (sym e) ∙ sym c.is_before.ensures ∙ c.if-not-is_before.false in (
       c.end_of_body-at.ensures ∙ ap (body_end (held b)) c.end_of_name-end.ensures ∙ next_action (held b) b.formed c.loop-k.k c.loop-k.at (omega arith) c.loop-k.invariant.0,
-      passed_more (held b) b.formed b.table.numbered m c.loop-k.k c.loop-k.invariant.1 p,
+      passed_more (held b) b.formed (operands_long b.table.entries b.table.whole) m c.loop-k.k c.loop-k.invariant.1 p,
     )
 
 pub returns : goal.returns
 returns c =
     let b = c.args.self.now in
-    let w = passed_all (held b) b.formed b.table.numbered (name_of c.args.name) c.loop-k.k (omega arith) c.loop-k.invariant.1 in
+    let w = passed_all (held b) b.formed (operands_long b.table.entries b.table.whole) (name_of c.args.name) c.loop-k.k (omega arith) c.loop-k.invariant.1 in
     record { number = w.number; exact = w.exact }

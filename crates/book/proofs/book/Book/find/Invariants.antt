@@ -1,3 +1,4 @@
+use Rattle.table.proofs.Lengths.{operands_long}
 use Rattle.std.proofs.Common.{◌≡◌}
 use Rattle.protocol.specs.Names.{name_of}
 use Rattle.book.specs.Finds.{action_place}
@@ -9,4 +10,4 @@ use Rattle.book.proofs.book.Book.find.Given as goal
 abbrev pub invariant-loop-k : goal.invariant-loop-k
 invariant-loop-k l =
     (l.at ≡ action_place (held l.self) l.k)
-    × Passed (held l.self) l.self.formed l.self.table.numbered (name_of l.name) l.k
+    × Passed (held l.self) l.self.formed (operands_long l.self.table.entries l.self.table.whole) (name_of l.name) l.k
