@@ -11,7 +11,8 @@ use Rattle.model.specs.Trees as tree
 use Rattle.model.specs.Trees.{Term, object, Formula, constant, atom, equal, negation, junction, implication, quantifier, atoms_of}
 use Rattle.adl.specs.Tables.{Table, most_entries, outermost, head}
 use Rattle.adl.specs.Reads.{terms, formula, effect, type_set, most_atoms, with_atoms, predicate, fact, parameter, operator, task}
-use Rattle.adl.specs.Loads.{refuse_if, and_then, sizes_fit, lengths_fit, given, done, task_in}
+use Rattle.table.specs.Answers.{and_then}
+use Rattle.adl.specs.Loads.{refuse_if, sizes_fit, lengths_fit, given, done, task_in}
 use Rattle.adl_theorems.specs.Writes.{write_term, write_formula, write_effect, write_fact, write_operator, write_task, SmallOperator, Writes, WithinLimits}
 use Rattle.adl.specs.declared.sizes.Sizes.{Sizes}
 use Rattle.adl_theorems.specs.Theorems.{WhatIsWrittenLoads}

@@ -1,14 +1,16 @@
 -- A table that loads is a task written out.
-use Rattle.std.proofs.Common.{◌≡◌, ℕ, ◌+◌, ◌<◌, ◌≤◌, Bool, true, false, ◌||◌, eqb, ltb, List, map, length, Ok, Err, sym, refl, ap, ◌∙◌, arith}
+use Rattle.std.proofs.Common.{◌≡◌, ℕ, ◌+◌, ◌<◌, ◌≤◌, true, ◌||◌, eqb, ltb, List, map, length, Ok, sym, ap, ◌∙◌, arith}
 use Rattle.std.proofs.lemmas.Bool.{ltb-false, eqb-false, or_parts}
-use Rattle.table.specs.Reading.{entry, Out, bad, good}
+use Rattle.table.specs.Reading.{entry, good}
 use Rattle.model.specs.Forming.{Each}
 use Rattle.model.specs.Lists.{gather}
 use Rattle.model.specs.Trees as tree
 use Rattle.adl.specs.Tables.{Table, most_entries, outermost}
 use Rattle.adl.specs.Reads.{type_set, with_atoms, predicate, fact, formula, operator, task, facts_place, goal_place, operators_place}
-use Rattle.table.specs.Answers.{is_good}
-use Rattle.adl.specs.Loads.{Answer, refuse_if, and_then, sizes_fit, lengths_fit, given, done, accepted, task_of}
+use Rattle.table.specs.Answers.{and_then}
+use Rattle.adl.specs.Loads.{sizes_fit, lengths_fit, given, done, accepted, task_of}
+use Rattle.fault.specs.declared.Layer.TheVariants as layer
+use Rattle.table.proofs.Accepting.{both_accept, not_refused, done_good, long_enough}
 use Rattle.adl_theorems.specs.Writes.{write_formula, write_fact, write_operator, write_task, Writes, SmallOperator, WithinLimits}
 use Rattle.adl_theorems.specs.Theorems.{WhatLoadsWasWritten}
 use Rattle.adl.specs.declared.sizes.Sizes.{Sizes}
@@ -20,27 +22,6 @@ use Rattle.adl_theorems.proofs.WellFormed.{loaded_tasks_are_well_formed}
 use Rattle.adl_theorems.proofs.Stretches.{stretch, Spells, first_entries, spells_both, spells_many, spells_singles, spells_within}
 use Rattle.adl_theorems.proofs.Spelling.{formula_spelled, type_spelled, predicate_spelled, fact_spelled, short, operator_spelled}
 use Rattle.adl_theorems.proofs.Complete.{what_is_written_loads}
-
--- The answers of loading.
-
--- a refusal does not load
-no_refusal_loads : {P : Type 0} (f : _) → ◌≡◌ {A = Answer} (Err f) (Ok tt) → P
-no_refusal_loads f e = let z : ◌≡◌ {A = ℕ} 0 1 = cc in let w : ⊥ = omega arith in absurd w
-
--- what is not refused failed the test
-not_refused : (b : Bool) (n p : ℕ) (rest : Answer) → refuse_if b n p rest ≡ Ok tt → (b ≡ false) × (rest ≡ Ok tt)
-not_refused true n p rest e = no_refusal_loads _ e
-not_refused false n p rest e = (refl, e)
-
--- each of two answers is no refusal
-both_load : (x y : Answer) → and_then x y ≡ Ok tt → (x ≡ Ok tt) × (y ≡ Ok tt)
-both_load (Ok u) y e = (refl, e)
-both_load (Err f) y e = no_refusal_loads f e
-
--- a reading that is no refusal is good
-done_good : {A : Type 0} (o : Out A) → done o ≡ Ok tt → is_good o ≡ true
-done_good (bad n p) e = no_refusal_loads _ e
-done_good (good x j) e = refl
 
 -- sizes that are not refused are within their limits
 record Sized (z : Sizes) : Type 0 where
@@ -54,12 +35,12 @@ record Sized (z : Sizes) : Type 0 where
 
 sized : (z : Sizes) → sizes_fit z ≡ Ok tt → Sized z
 sized z e =
-    let a = not_refused (eqb z.objects 0 || ltb 32 z.objects) 1 0 _ e in
-    let b = not_refused (ltb 32 z.types) 1 1 _ a.1 in
-    let c = not_refused (ltb 32 z.predicates) 1 2 _ b.1 in
-    let d = not_refused (ltb 4096 z.facts) 1 3 _ c.1 in
-    let f = not_refused (ltb 32 z.operators) 1 4 _ d.1 in
-    let g = not_refused (eqb z.entries 0 || ltb 16384 z.entries) 1 5 _ f.1 in
+    let a = not_refused layer.Task (eqb z.objects 0 || ltb 32 z.objects) 1 0 _ e in
+    let b = not_refused layer.Task (ltb 32 z.types) 1 1 _ a.1 in
+    let c = not_refused layer.Task (ltb 32 z.predicates) 1 2 _ b.1 in
+    let d = not_refused layer.Task (ltb 4096 z.facts) 1 3 _ c.1 in
+    let f = not_refused layer.Task (ltb 32 z.operators) 1 4 _ d.1 in
+    let g = not_refused layer.Task (eqb z.entries 0 || ltb 16384 z.entries) 1 5 _ f.1 in
     let o = or_parts (eqb z.objects 0) (ltb 32 z.objects) a.0 in
     let i = or_parts (eqb z.entries 0) (ltb 16384 z.entries) g.0 in
     let n : z.objects ≡ 0 → ⊥ = eqb-false z.objects 0 o.0 in
@@ -72,13 +53,6 @@ sized z e =
       operators = ltb-false 32 z.operators f.0;
       entries = ltb-false 16384 z.entries i.1;
     }
-
--- arrays that are not refused are long enough
-long_enough : (n : ℕ) (ks os : List ℕ) → lengths_fit n ks os ≡ Ok tt → (n ≤ length ks) × (n ≤ length os)
-long_enough n ks os e =
-    let a = not_refused (ltb (length ks) n) 2 (length ks) _ e in
-    let b = not_refused (ltb (length os) n) 2 (length os) _ a.1 in
-    (ltb-false (length ks) n a.0, ltb-false (length os) n b.0)
 
 -- The task in its table.
 module _ (t : Table) (formed : accepted t ≡ true) where
@@ -168,10 +142,10 @@ task_limited z ks os s formed =
 pub what_loads_was_written : WhatLoadsWasWritten
 what_loads_was_written z ks os e =
     let t = given z ks os in
-    let a = both_load (sizes_fit z) (and_then (lengths_fit z.entries ks os) (done (task t))) e in
-    let b = both_load (lengths_fit z.entries ks os) (done (task t)) a.1 in
-    let formed : accepted t ≡ true = done_good (task t) b.1 in
-    let long = long_enough z.entries ks os b.0 in
+    let a = both_accept (sizes_fit z) (and_then (lengths_fit z.entries ks os) (done (task t))) e in
+    let b = both_accept (lengths_fit z.entries ks os) (done (task t)) a.1 in
+    let formed : accepted t ≡ true = done_good layer.Task (task t) b.1 in
+    let long = long_enough layer.Task z.entries ks os b.0 in
     record {
       written = task_writes t formed;
       formed = loaded_tasks_are_well_formed t formed;

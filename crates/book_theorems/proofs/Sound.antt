@@ -16,32 +16,12 @@ use Rattle.book.specs.declared.sizes.Sizes.{Sizes}
 use Rattle.book.proofs.Items.{series_each}
 use Rattle.book.proofs.Standing.{Stands, stands, Opened, opened}
 use Rattle.book.proofs.WellFormed.{opened_books_are_well_formed}
+use Rattle.table.proofs.Accepting.{both_accept, not_refused, done_good, long_enough}
 use Rattle.book_theorems.specs.Writes.{write_ground, write_action, write_start, write_book, Writes, SmallAction, WithinLimits}
 use Rattle.book_theorems.specs.Theorems.{WhatOpensWasWritten}
 use Rattle.book_theorems.proofs.Written.{Written, whole_written, written_both, series_written, singles_written}
 use Rattle.book_theorems.proofs.Spelling.{ground_written, action_written, start_written, always_written}
 use Rattle.book_theorems.proofs.Complete.{what_is_written_opens}
-
--- The answers of opening.
-
--- a refusal does not open
-no_refusal_opens : {P : Type 0} (f : _) → ◌≡◌ {A = Answer} (Err f) (Ok tt) → P
-no_refusal_opens f e = let z : ◌≡◌ {A = ℕ} 0 1 = cc in let w : ⊥ = omega arith in absurd w
-
--- what is not refused failed the test
-not_refused : (l : Layer) (b : Bool) (n p : ℕ) (rest : Answer) → refuse_if l b n p rest ≡ Ok tt → (b ≡ false) × (rest ≡ Ok tt)
-not_refused l true n p rest e = no_refusal_opens _ e
-not_refused l false n p rest e = (refl, e)
-
--- each of two answers is no refusal
-both_open : (x y : Answer) → and_then x y ≡ Ok tt → (x ≡ Ok tt) × (y ≡ Ok tt)
-both_open (Ok u) y e = (refl, e)
-both_open (Err f) y e = no_refusal_opens f e
-
--- a reading that is no refusal is good
-done_good : {A : Type 0} (l : Layer) (o : Out A) → done l o ≡ Ok tt → is_good o ≡ true
-done_good l (bad n p) e = no_refusal_opens _ e
-done_good l (good x j) e = refl
 
 -- sizes that are not refused are within their limits
 record Sized (z : Sizes) : Type 0 where
@@ -62,13 +42,6 @@ sized z e =
       actions = ltb-false 1048576 z.actions c.0;
       entries = ltb-false 1048576 z.entries (or_parts (eqb z.entries 0) (ltb 1048576 z.entries) d.0).1;
     }
-
--- arrays that are not refused are long enough
-long_enough : (n : ℕ) (ks os : List ℕ) → lengths_fit n ks os ≡ Ok tt → (n ≤ length ks) × (n ≤ length os)
-long_enough n ks os e =
-    let a = not_refused layer.Book (ltb (length ks) n) 2 (length ks) _ e in
-    let b = not_refused layer.Book (ltb (length os) n) 2 (length os) _ a.1 in
-    (ltb-false (length ks) n a.0, ltb-false (length os) n b.0)
 
 -- The book in its table.
 module _ (t : Table) (formed : accepted t ≡ true) (long : t.entries ≤ length t.operands) where
@@ -128,10 +101,10 @@ book_limited z ks os s formed long =
 pub what_opens_was_written : WhatOpensWasWritten
 what_opens_was_written z ks os e =
     let t = given z ks os in
-    let a = both_open (sizes_fit z) (and_then (lengths_fit z.entries ks os) (done layer.Book (book t))) e in
-    let b = both_open (lengths_fit z.entries ks os) (done layer.Book (book t)) a.1 in
+    let a = both_accept (sizes_fit z) (and_then (lengths_fit z.entries ks os) (done layer.Book (book t))) e in
+    let b = both_accept (lengths_fit z.entries ks os) (done layer.Book (book t)) a.1 in
     let formed : accepted t ≡ true = done_good layer.Book (book t) b.1 in
-    let long = long_enough z.entries ks os b.0 in
+    let long = long_enough layer.Book z.entries ks os b.0 in
     let s = sized z a.0 in
     record {
       written = book_writes t formed long.1;
