@@ -3,20 +3,14 @@
 
 ghost use Rattle.adl_theorems.specs.Theorems.{WhatIsWrittenLoads, WhatLoadsWasWritten, RecordsHoldWellFormedTasks};
 
-pub fn what_is_written_loads() -> u8
+pub fn what_is_written_loads()
     ensures { WhatIsWrittenLoads }
-{
-    0
-}
+{}
 
-pub fn what_loads_was_written() -> u8
+pub fn what_loads_was_written()
     ensures { WhatLoadsWasWritten }
-{
-    0
-}
+{}
 
-pub fn records_hold_well_formed_tasks() -> u8
+pub fn records_hold_well_formed_tasks()
     ensures { RecordsHoldWellFormedTasks }
-{
-    0
-}
+{}

@@ -3,8 +3,6 @@
 
 ghost use Rattle.agreement.specs.Agreement.{TaskAndBookAgree};
 
-pub fn task_and_book_agree() -> u8
+pub fn task_and_book_agree()
     ensures { TaskAndBookAgree }
-{
-    0
-}
+{}

@@ -3,20 +3,14 @@
 
 ghost use Rattle.book_theorems.specs.Theorems.{WhatIsWrittenOpens, WhatOpensWasWritten, RecordsHoldWellFormedBooks};
 
-pub fn what_is_written_opens() -> u8
+pub fn what_is_written_opens()
     ensures { WhatIsWrittenOpens }
-{
-    0
-}
+{}
 
-pub fn what_opens_was_written() -> u8
+pub fn what_opens_was_written()
     ensures { WhatOpensWasWritten }
-{
-    0
-}
+{}
 
-pub fn records_hold_well_formed_books() -> u8
+pub fn records_hold_well_formed_books()
     ensures { RecordsHoldWellFormedBooks }
-{
-    0
-}
+{}
