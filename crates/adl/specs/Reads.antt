@@ -152,6 +152,3 @@ precondition_place t i = i + 1 + slice_index t.operands i
 abbrev pub effect_place : Table → ℕ → ℕ
 effect_place t i =
     next_place (formula t most_entries (outermost (slice_index t.operands i) (precondition_place t i)) (precondition_place t i))
-
-unfoldable pub effect_places : Table → List ℕ
-effect_places t = map (effect_place t) (operator_places t)

@@ -1,7 +1,6 @@
 // Planning tasks in ADL: their tables, and loading them.
 #![tactic(auto)]
 
-mod check;
 mod declare;
 pub mod operator_places;
 mod reader;
@@ -9,7 +8,6 @@ pub mod sizes;
 pub mod task;
 pub mod task_table;
 
-pub use check::arity;
 pub use sizes::Sizes;
 pub use task::Task;
 pub use task_table::TaskTable;

@@ -5,7 +5,6 @@ ghost use Rattle.table.specs.Entries.{coded, all_coded};
 ghost use Rattle.adl.specs.Tables.{is_quantifier, within_bounds, in_range, outermost as outermost_at, deeper as inside, head};
 ghost use Rattle.adl.specs.Reads.{term, terms, formula, change_by, consequent, effect};
 
-use crate::check::arity;
 use crate::task_table::TaskTable;
 use fault::{Cause, Fault, Layer};
 use table::{Head, Kind, Place};
@@ -110,7 +109,7 @@ impl<'t, 'a> Reader<'t, 'a> {
         ensures { result ≡ answer (terms (table_read self.now) (around_in self.now) predicate at) }
     {
         let mut next = at;
-        for _ in 0..arity(self.table, predicate) {
+        for _ in 0..self.table.arity(predicate) {
             next = self.check_term(next)?;
         }
         Ok(next)

@@ -3,6 +3,7 @@ ghost use Rattle.std.specs.Prelude.{◌≡◌, ◌≤◌, IfOk};
 ghost use Rattle.fault.specs.declared.Layer.TheVariants as layer;
 ghost use Rattle.table.specs.Answers.{and_then, lengths_fit, whether};
 ghost use Rattle.adl.specs.Loads.{sizes_fit, given};
+ghost use Rattle.adl.specs.Tables.{arity as arity_of};
 
 use crate::sizes::Sizes;
 use fault::{Fault, Layer};
@@ -36,5 +37,16 @@ impl<'a> TaskTable<'a> {
         sizes.check()?;
         let entries = Entries::new(Layer::Task, sizes.entries, kinds, operands)?;
         Ok(TaskTable { sizes, entries })
+    }
+
+    // The arity of a predicate, or 0 where the table is too short.
+    pub fn arity(&self, predicate: u32) -> u32
+        ensures { result ≡ arity_of (table_in self.now) predicate }
+    {
+        self.entries
+            .operands
+            .get(self.sizes.types as usize + predicate as usize)
+            .copied()
+            .unwrap_or(0)
     }
 }

@@ -1,13 +1,12 @@
 -- What follows from a task that stands in its table.
 use Rattle.std.proofs.Common.{◌≡◌, ℕ, zero, suc, ◌+◌, ◌-◌, ◌^◌, ◌<◌, ◌≤◌, true, leb, List, [], length, get_or, sym, refl, ap, ◌∙◌, subst, arith, ltb-true, eqb-true, leb-true}
-use Rattle.std.proofs.lemmas.List.{get_or-map}
 use Rattle.table.specs.declared.places.Place.TheVariants as place
 use Rattle.table.specs.Reading.{Entry, Out, bad, good, then, series, many, next_place}
 use Rattle.model.specs.Meaning.{nothing}
 use Rattle.model.specs.Trees as tree
 use Rattle.model.specs.Trees.{atoms_of, atoms}
 use Rattle.adl.specs.Tables.{Table, arity, most_entries, outermost, head}
-use Rattle.adl.specs.Reads.{type_set, with_atoms, predicate, fact, formula, effect, parameter, operator, task, facts_place, goal_place, operators_place, operator_places, precondition_place, effect_place, effect_places}
+use Rattle.adl.specs.Reads.{type_set, with_atoms, predicate, fact, formula, effect, parameter, operator, task, facts_place, goal_place, operators_place, operator_places, precondition_place, effect_place}
 use Rattle.table.specs.Answers.{is_good}
 use Rattle.adl.specs.Loads.{accepted, task_in, task_of}
 use Rattle.table.proofs.Reading.{first_step, passed, series_first, series_length, singles_end, singles_item, starts_length, many_item}
@@ -220,8 +219,3 @@ module _ (t : Table) (formed : accepted t ≡ true) where
 pub operator_places_length : (t : Table) → length (operator_places t) ≡ t.operators
 unfolding operator_places
 operator_places_length t = starts_length (operator t) t.operators (operators_place t)
-
--- where the effect of the operator with number o begins
-pub effect_at : (t : Table) (o : ℕ) → o < t.operators → get_or (effect_places t) o 0 ≡ effect_place t (get_or (operator_places t) o 0)
-unfolding effect_places
-effect_at t o h = let n : o < length (operator_places t) = omega (arith, operator_places_length t) in get_or-map (effect_place t) (operator_places t) o 0 0 n
