@@ -1,5 +1,6 @@
 // An atom that is added or deleted, as a key.
-ghost use Rattle.rising.specs.Literals.{Before};
+ghost use Rattle.std.specs.Prelude.{◌≡◌};
+ghost use Rattle.rising.specs.Literals.{Before, is_adds};
 ghost use Rattle.std.proofs.Common.{rules};
 
 use crate::key::Key;
@@ -9,6 +10,14 @@ use crate::key::Key;
 pub enum Sign {
     Adds,
     Deletes,
+}
+
+impl Sign {
+    pub fn adds(self) -> bool
+        ensures { result ≡ is_adds self }
+    {
+        self == Sign::Adds
+    }
 }
 
 // An atom by its number, and whether it is added or deleted: ordered by atom, then added before deleted.
