@@ -1,9 +1,11 @@
 -- What holds of rising lists.
-use Rattle.std.proofs.Common.{◌≡◌, ℕ, ◌+◌, ◌-◌, ◌<◌, ◌≤◌, min, ◌≢◌, List, length, get_or, take, set, sym, ap, ◌∙◌, subst, inl, inr, ⊎_elim, arith, length-take}
+use Rattle.std.proofs.Common.{◌≡◌, ℕ, ◌+◌, ◌-◌, ◌<◌, ◌≤◌, min, ◌≢◌, ◌↔◌, List, length, get_or, take, set, sym, ap, ◌∙◌, subst, inl, inr, ⊎_elim, arith, length-take, Ordering, Less}
+use Rattle.std.specs.Cmp.{IsTotalOrder}
+use Rattle.std.proofs.lemmas.Cmp.{tied_itself}
 use Rattle.std.specs.List.{ContainsAt as Has}
-use Rattle.std.proofs.lemmas.List.{take_all, length-take-le, get_or-take, get_or_default, get_or-set_same, get_or-set_other, length-set}
+use Rattle.std.proofs.lemmas.List.{get_or-take, get_or_default, get_or-set_same, get_or-set_other, length-set}
 use Rattle.std.proofs.lemmas.Bool.{cases_eq, cases_lt}
-use Rattle.rising.specs.Ascent.{Rises, Below, Above, Gap, Spot, With, Without}
+use Rattle.rising.specs.Ascent.{Rises, Gap, Spot, With, Without}
 
 -- a key of the list is what its place holds, at whichever default
 pub item_at : {K : Type 0} (xs : List K) (n m : ℕ) (e : K) → m < length (take n xs) → (d : K) → get_or (take n xs) m d ≡ get_or xs m e
@@ -12,37 +14,6 @@ item_at xs n m e lt d =
     let a : m < n = omega arith in
     let b : m < length xs = omega arith in
     get_or-take n xs m d a ∙ get_or_default xs m d e b
-
--- the list is as many of the places as it has keys
-pub take_count : {K : Type 0} (xs : List K) (m : ℕ) → take (length (take m xs)) xs ≡ take m xs
-take_count xs m =
-    ⊎_elim
-    (λ lt. ap (λ q. take q xs) (length-take-le m xs (omega arith)))
-    (λ ge. ap (λ q. take q xs) (ap length (take_all m xs ge)) ∙ take_all (length xs) xs (omega arith) ∙ sym (take_all m xs ge))
-    (cases_lt m (length xs))
-
--- what a place of the list holds stands there
-pub spot_at : {K : Type 0} (xs : List K) (n m : ℕ) (x : K) → m < length (take n xs) → x ≡ get_or xs m x → Spot (take n xs) x m
-spot_at xs n m x lt is = record { within = lt; is = λ d. item_at xs n m x lt d ∙ sym is }
-
-module _ {K : Type 0} (L : K → K → Type 0) (chain : (x y z : K) → L x y → L y z → L x z) where
-  -- the search goes on to the right
-  pub below_more : (xs : List K) (k x : K) (m : ℕ) → Rises L xs → Spot xs x m → L x k → Below L xs k (m + 1)
-  below_more xs k x m up spot less j d h =
-      let at : L (get_or xs m d) k = subst (λ y. L y k) (sym (spot.is d)) less in
-      ⊎_elim
-      (λ e. subst (λ i. L (get_or xs i d) k) (sym e) at)
-      (λ ne. chain _ _ _ (up j m d (omega (arith, ne)) spot.within) at)
-      (cases_eq j m)
-
-  -- the search goes on to the left
-  pub above_more : (xs : List K) (k x : K) (m : ℕ) → Rises L xs → Spot xs x m → L k x → Above L xs k m
-  above_more xs k x m up spot more j d le in_it =
-      let at : L k (get_or xs m d) = subst (λ y. L k y) (sym (spot.is d)) more in
-      ⊎_elim
-      (λ e. subst (λ i. L k (get_or xs i d)) (sym e) at)
-      (λ ne. chain _ _ _ at (up m j d (omega (arith, ne)) in_it))
-      (cases_eq j m)
 
 -- what a copy inside the places leaves: zs has at `dest` and above what xs has from `from` on, below `to`
 abbrev pub Moved : {K : Type 0} → List K → List K → ℕ → ℕ → ℕ → Type 0
@@ -161,7 +132,15 @@ module _ {K : Type 0} (L : K → K → Type 0) where
       (cases_lt i at)))
       (cases_lt j at)
 
-module _ {K : Type 0} (L : K → K → Type 0) (never : (x : K) → L x x → ⊥) where
+module _ {K : Type 0} {L : K → K → Type 0} {cmp : K → K → Ordering} (total : IsTotalOrder cmp) (less : (x y : K) → L x y ↔ (cmp x y ≡ Less)) where
+  -- no key comes before itself
+  pub never : (x : K) → L x x → ⊥
+  never x h = let a = (less x x).0 h in let b = tied_itself total x in cc
+
+  -- what comes before a key comes before all that it comes before
+  pub chain : (x y z : K) → L x y → L y z → L x z
+  chain x y z h k = (less x z).1 (total.trans x y z ((less x y).0 h) ((less y z).0 k))
+
   -- a key with a gap is in no place
   pub gap_missing : (xs : List K) (k : K) (at : ℕ) → Gap L xs k at → Has xs k → ⊥
   gap_missing xs k at gap (i, lt, is) =

@@ -6,5 +6,5 @@ pub mod literal;
 pub mod rising;
 
 pub use key::Key;
-pub use literal::Literal;
+pub use literal::{Literal, Sign};
 pub use rising::{Full, Rising};

@@ -1,36 +1,36 @@
 // An atom that is added or deleted, as a key.
-ghost use Rattle.rising.specs.Literals.{Before};
+ghost use Rattle.std.specs.Prelude.{◌≡◌};
+ghost use Rattle.rising.specs.Literals.{Before, is_adds};
 ghost use Rattle.std.proofs.Common.{rules};
 
 use crate::key::Key;
-use std::cmp::Ordering;
 
-// An atom by its number, and whether it is added or deleted.
-#[derive(Clone, Copy, PartialEq, Eq, Debug)]
-pub struct Literal {
-    pub atom: u32,
-    pub adds: bool,
+// Whether an atom is added or deleted.
+#[derive(Clone, Copy, PartialEq, Eq, PartialOrd, Ord, Debug)]
+pub enum Sign {
+    Adds,
+    Deletes,
 }
 
-// By atom, then added before deleted.
+impl Sign {
+    pub fn adds(self) -> bool
+        ensures { result ≡ is_adds self }
+    {
+        self == Sign::Adds
+    }
+}
+
+// An atom by its number, and whether it is added or deleted: ordered by atom, then added before deleted.
+#[derive(Clone, Copy, PartialEq, Eq, PartialOrd, Ord, Debug)]
+pub struct Literal {
+    pub atom: u32,
+    pub sign: Sign,
+}
+
 impl Key for Literal {
     ghost before = { Before };
 
-    ghost never = { Prim.search rules };
+    ghost before_is_less = { Prim.search rules };
 
-    ghost chain = { Prim.search rules };
-
-    fn order(&self, other: &Literal) -> Ordering {
-        if self.atom < other.atom {
-            Ordering::Less
-        } else if other.atom < self.atom {
-            Ordering::Greater
-        } else if self.adds == other.adds {
-            Ordering::Equal
-        } else if self.adds {
-            Ordering::Less
-        } else {
-            Ordering::Greater
-        }
-    }
+    ghost equal_is_same = { Prim.search rules };
 }

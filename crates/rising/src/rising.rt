@@ -4,9 +4,9 @@ ghost use Rattle.rising.specs.Ascent.{Rises, Gap, Spot, AfterInsert, AfterRemove
 ghost use Rattle.rising.specs.Items.{items, room};
 
 use crate::key::Key;
-use std::cmp::Ordering;
 
 // The keys stand in the first places. A list that rises goes on rising: each call promises it.
+// A lent slice and a length, as nothing here allocates, and the project wants no invariant of the generic type.
 #[derive(Drop)]
 pub struct Rising<'a, K> {
     slots: &'a mut [K],
@@ -16,25 +16,6 @@ pub struct Rising<'a, K> {
 // The answer of a list with no free place.
 #[derive(Clone, Copy, PartialEq, Eq, Debug)]
 pub struct Full;
-
-// The place of the key among the first n, or the place where it would stand.
-fn locate<K: Key>(slots: &[K], n: usize, key: &K) -> Result<usize, usize>
-    requires { n ≤ length slots.now }
-    ensures within { MatchResult result (λ i. i < n) (λ i. i ≤ n) }
-    ensures found { Rises K.before (take n slots.now) → MatchResult result (Spot (take n slots.now) key.now) (Gap K.before (take n slots.now) key.now) }
-{
-    let mut low = 0;
-    let mut high = n;
-    while low < high {
-        let mid = low + (high - low) / 2;
-        match slots[mid].order(key) {
-            Ordering::Less => low = mid + 1,
-            Ordering::Equal => return Ok(mid),
-            Ordering::Greater => high = mid,
-        }
-    }
-    Err(low)
-}
 
 impl<'a, K: Key> Rising<'a, K> {
     // The list begins empty, whatever the slots hold.
@@ -52,6 +33,13 @@ impl<'a, K: Key> Rising<'a, K> {
         self.len.min(self.slots.len())
     }
 
+    // The keys, in their order.
+    fn as_slice(&self) -> &[K]
+        ensures { result.now ≡ items self.now }
+    {
+        &self.slots[..self.count()]
+    }
+
     // The number of keys that there are places for.
     pub fn places(&self) -> usize
         ensures { result ≡ room self.now }
@@ -63,12 +51,7 @@ impl<'a, K: Key> Rising<'a, K> {
     pub fn at(&self, i: usize) -> Option<K>
         ensures { MatchOption result (length (items self.now) ≤ i) (λ k. Spot (items self.now) k i) }
     {
-        let slots = &*self.slots;
-        if i < self.count() {
-            Some(slots[i])
-        } else {
-            None
-        }
+        self.as_slice().get(i).copied()
     }
 
     // Takes every key out.
@@ -84,8 +67,7 @@ impl<'a, K: Key> Rising<'a, K> {
         ensures within { MatchResult result (λ i. i < length (items self.now)) (λ i. i ≤ length (items self.now)) }
         ensures found { Rises K.before (items self.now) → MatchResult result (Spot (items self.now) key.now) (Gap K.before (items self.now) key.now) }
     {
-        let slots = &*self.slots;
-        locate(slots, self.count(), key)
+        self.as_slice().binary_search(key)
     }
 
     // Puts the key in: whether it was new.
@@ -93,12 +75,11 @@ impl<'a, K: Key> Rising<'a, K> {
         ensures places { room self.new ≡ room self.old }
         ensures held { Rises K.before (items self.old) → AfterInsert K.before (room self.old) (items self.old) (items self.new) key result }
     {
-        let at = match self.find(&key) {
-            Ok(_) => return Ok(false),
-            Err(at) => at,
+        let Err(at) = self.find(&key) else {
+            return Ok(false);
         };
         let n = self.count();
-        if n >= self.slots.len() {
+        if n == self.places() {
             return Err(Full);
         }
         self.slots.copy_within(at..n, at + 1);
@@ -112,9 +93,8 @@ impl<'a, K: Key> Rising<'a, K> {
         ensures places { room self.new ≡ room self.old }
         ensures held { Rises K.before (items self.old) → AfterRemove K.before (items self.old) (items self.new) key.now result }
     {
-        let at = match self.find(key) {
-            Ok(at) => at,
-            Err(_) => return false,
+        let Ok(at) = self.find(key) else {
+            return false;
         };
         let n = self.count();
         self.slots.copy_within(at + 1..n, at);

@@ -6,6 +6,7 @@ use Rattle.std.proofs.lemmas.List.{map_more, take_all, take-append-drop, length-
 use Rattle.store.specs.Sets.{after_put}
 use Rattle.model.specs.Meaning.{State, Literal}
 use Rattle.rising.specs.declared.literal.Literal as code
+use Rattle.rising.specs.Literals.{is_adds}
 use Rattle.protocol.proofs.Puts.{put_append}
 use Rattle.runs.specs.Effects.{meant}
 use Rattle.protocol.specs.Steps.{put_literals}
@@ -16,22 +17,22 @@ front i xs = map meant (take i xs)
 
 -- one literal more
 pub put_more : (n : ℕ) (b : Bool) (xs : List code.Literal) (i : ℕ) (d : code.Literal) (s : State) → i < length xs →
-    put_literals n b (front (i + 1) xs) s ≡ cond (beq (get_or xs i d).adds b) (after_put n (put_literals n b (front i xs) s) (get_or xs i d).atom b) (put_literals n b (front i xs) s)
+    put_literals n b (front (i + 1) xs) s ≡ cond (beq (is_adds (get_or xs i d).sign) b) (after_put n (put_literals n b (front i xs) s) (get_or xs i d).atom b) (put_literals n b (front i xs) s)
 put_more n b xs i d s h = ap (λ (ls : List Literal). put_literals n b ls s) (map_more meant xs i d h) ∙ put_append n b (front i xs) (meant (get_or xs i d) ∷ []) s
 
 -- a turn of the loop over a window
 module _ (n : ℕ) (b : Bool) (xs : List code.Literal) (i : ℕ) (d : code.Literal) (s t : State) where
   -- the literal is put
-  pub turn_taken : (m : ℕ) (u : State) → i < length xs → beq (get_or xs i d).adds b ≡ true → m ≡ n → t ≡ put_literals n b (front i xs) s → u ≡ after_put m t (get_or xs i d).atom b →
+  pub turn_taken : (m : ℕ) (u : State) → i < length xs → beq (is_adds (get_or xs i d).sign) b ≡ true → m ≡ n → t ≡ put_literals n b (front i xs) s → u ≡ after_put m t (get_or xs i d).atom b →
       u ≡ put_literals n b (front (i + 1) xs) s
   turn_taken m u h e q p r =
       r ∙ ap (λ (k : ℕ). after_put k t (get_or xs i d).atom b) q ∙ ap (λ (z : State). after_put n z (get_or xs i d).atom b) p
-      ∙ sym (cond-true (beq (get_or xs i d).adds b) (after_put n (put_literals n b (front i xs) s) (get_or xs i d).atom b) (put_literals n b (front i xs) s) e) ∙ sym (put_more n b xs i d s h)
+      ∙ sym (cond-true (beq (is_adds (get_or xs i d).sign) b) (after_put n (put_literals n b (front i xs) s) (get_or xs i d).atom b) (put_literals n b (front i xs) s) e) ∙ sym (put_more n b xs i d s h)
 
   -- the literal is passed over
-  pub turn_left : i < length xs → beq (get_or xs i d).adds b ≡ false → t ≡ put_literals n b (front i xs) s → t ≡ put_literals n b (front (i + 1) xs) s
+  pub turn_left : i < length xs → beq (is_adds (get_or xs i d).sign) b ≡ false → t ≡ put_literals n b (front i xs) s → t ≡ put_literals n b (front (i + 1) xs) s
   turn_left h e p =
-      p ∙ sym (cond-false (beq (get_or xs i d).adds b) (after_put n (put_literals n b (front i xs) s) (get_or xs i d).atom b) (put_literals n b (front i xs) s) e) ∙ sym (put_more n b xs i d s h)
+      p ∙ sym (cond-false (beq (is_adds (get_or xs i d).sign) b) (after_put n (put_literals n b (front i xs) s) (get_or xs i d).atom b) (put_literals n b (front i xs) s) e) ∙ sym (put_more n b xs i d s h)
 
 module _ (n : ℕ) (b : Bool) (ls : List Literal) (from : ℕ) (s : State) where
   -- a full window more

@@ -1,12 +1,21 @@
 -- What a window holds after a list of literals.
-use Rattle.std.proofs.Common.{◌≡◌, ℕ, zero, suc, ◌+◌, ◌-◌, ◌<◌, ◌≤◌, cond, ltb, List, [], ◌∷◌, ◌++◌, map, length, take, drop, set, fold, sym, refl, ap, ◌∙◌, subst, ⊎_elim, sub-one, arith}
+use Rattle.std.proofs.Common.{◌≡◌, ℕ, zero, suc, ◌+◌, ◌-◌, ◌<◌, ◌≤◌, Bool, true, false, cond, ltb, List, [], ◌∷◌, ◌++◌, map, length, take, drop, set, fold, sym, refl, ap, ◌∙◌, subst, ⊎_elim, sub-one, arith}
 use Rattle.std.proofs.lemmas.Bool.{cases_lt, lt-ltb, le-ltb, cond-true, cond-false}
 use Rattle.std.proofs.lemmas.List.{append-nil, append_assoc, take_more_set, length-set, length-map, map_push, drop_all, take_all, length-take-le}
 use Rattle.model.specs.Meaning.{Literal}
 use Rattle.rising.specs.declared.literal.Literal as code
+use Rattle.rising.specs.Literals.{is_adds, sign_of}
 use Rattle.runs.specs.declared.window.Window.{Window}
 use Rattle.runs.specs.Effects.{meant}
 use Rattle.runs.specs.Windows.{written, offered, kept}
+
+sign_is : (b : Bool) → is_adds (sign_of b) ≡ b
+sign_is true = refl
+sign_is false = refl
+
+-- a literal as the code has it means itself
+meant_written : (l : Literal) → meant (written l) ≡ l
+meant_written l = ap (λ b. record { adds = b; atom = l.atom }) (sign_is l.adds)
 
 -- one literal of those to be passed over
 drop_past : (l : Literal) (ls : List Literal) (k : ℕ) → 0 < k → drop (k - 1) ls ≡ drop k (l ∷ ls)
@@ -57,7 +66,7 @@ filled (l ∷ ls) xs n k p h =
       counted = i.counted;
       is =
           i.is ∙ ap (λ (z : List code.Literal). map meant z ++ take (64 - (n + 1)) (drop k ls)) (take_more_set xs n (written l) (omega arith))
-          ∙ ap (λ (z : List Literal). z ++ take (64 - (n + 1)) (drop k ls)) (map_push meant (take n xs) (written l))
+          ∙ ap (λ (z : List Literal). z ++ take (64 - (n + 1)) (drop k ls)) (map_push meant (take n xs) (written l) ∙ ap (λ (z : Literal). map meant (take n xs) ++ z ∷ []) (meant_written l))
           ∙ append_assoc (map meant (take n xs)) (l ∷ []) (take (64 - (n + 1)) (drop k ls))
           ∙ ap (λ (z : List Literal). map meant (take n xs) ++ l ∷ take (64 - (n + 1)) z) (drop_zero ls k none)
           ∙ ap (λ (z : List Literal). map meant (take n xs) ++ z) (take_one l ls (64 - n) (64 - (n + 1)) (omega arith))

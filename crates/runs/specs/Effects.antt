@@ -7,10 +7,11 @@ use Rattle.model.specs.Trees.{Task, Change, Consequent, outcomes_of, all_outcome
 use Rattle.adl.specs.Tables.{Table, Around, head}
 use Rattle.adl.specs.Reads.{change_by, consequent, consequents_of, effect, effects_of}
 use Rattle.rising.specs.declared.literal.Literal as code
+use Rattle.rising.specs.Literals.{is_adds}
 
 -- the literal that the code's literal means
 abbrev pub meant : code.Literal → Literal
-meant l = record { adds = l.adds; atom = l.atom }
+meant l = record { adds = is_adds l.sign; atom = l.atom }
 
 -- an atom that is added or deleted, read from its first entry on
 abbrev pub change_from : Table → Around → ℕ → Out Change

@@ -3,6 +3,7 @@ use Rattle.std.specs.Prelude.{◌+◌, ◌-◌, Bool, cond, ◌&&◌, List, map,
 use Rattle.model.specs.Meaning.{Literal}
 use Rattle.runs.specs.Effects.{meant}
 use Rattle.rising.specs.declared.literal.Literal as code
+use Rattle.rising.specs.Literals.{sign_of}
 use Rattle.runs.specs.declared.window.Window.{Window}
 
 -- it takes no more literals
@@ -11,7 +12,7 @@ packed w = w.skip == 0 && nat_le 64 w.len
 
 -- a literal as the code has it
 abbrev pub written : Literal → code.Literal
-written l = record { atom = l.atom; adds = l.adds }
+written l = record { atom = l.atom; sign = sign_of l.adds }
 
 -- one more literal: passed over, or kept while there is a place
 abbrev pub offered : Window → Literal → Window

@@ -25,7 +25,7 @@ fn put_window<S: Store>(store: &mut S, window: &Window, adds: bool)
 {
     for i in 0..window.len {
         let literal = window.items[i];
-        if literal.adds == adds {
+        if literal.sign.adds() == adds {
             let _ = store.put(literal.atom, adds);
         }
     }

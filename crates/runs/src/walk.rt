@@ -15,7 +15,7 @@ use crate::sheet::{Bound, Sheet};
 use crate::sink::Sink;
 use crate::skip_effect::{skip_consequent, skip_effect};
 use adl::{Task, arity};
-use rising::Literal;
+use rising::{Literal, Sign};
 use table::Kind;
 
 // The literal of the atom at place `at`, plain or under NOT, and the place after it.
@@ -26,15 +26,14 @@ fn change(task: &Task, sheet: &Sheet, at: usize, depth: usize) -> (Literal, usiz
     ensures { (c : Change) (j : ℕ) → ChangeAt (held task.now) depth at c j →
         (meant result.0 ≡ ground (tree_of task.now) (bound sheet.now depth) c) × (result.1 ≡ j) }
 {
-    let adds = match kind_at(task, at) {
-        Kind::Not => false,
-        _ => true,
+    let (sign, start) = match kind_at(task, at) {
+        Kind::Not => (Sign::Deletes, at + 1),
+        _ => (Sign::Adds, at),
     };
-    let start = if adds { at } else { at + 1 };
     let predicate = task.table.operands[start];
     let atom = atom_number(task, sheet, predicate, start + 1, depth);
     (
-        Literal { atom, adds },
+        Literal { atom, sign },
         start + 1 + arity(&task.table, predicate) as usize,
     )
 }

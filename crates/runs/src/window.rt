@@ -13,7 +13,7 @@ use crate::sheet::Sheet;
 use crate::sink::Sink;
 use crate::walk::walk;
 use adl::Task;
-use rising::Literal;
+use rising::{Literal, Sign};
 
 // Up to 64 literals; `skip` is how many are still to be passed over.
 #[derive(Clone, Copy)]
@@ -49,7 +49,7 @@ fn fresh(from: usize) -> Window
 {
     let none = Literal {
         atom: 0,
-        adds: false,
+        sign: Sign::Deletes,
     };
     Window {
         items: [none; 64],

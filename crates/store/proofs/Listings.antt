@@ -1,5 +1,5 @@
 -- What holds of a set that is kept as a rising list.
-use Rattle.std.proofs.Common.{◌≡◌, ℕ, zero, suc, ◌+◌, ◌-◌, ◌<◌, ◌≤◌, Bool, true, false, eqb, List, length, get_or, is_ok, Ok, Err, Decides, Result, sym, refl, ap, ◌∙◌, subst, ⊎_elim, arith, MatchResult}
+use Rattle.std.proofs.Common.{◌≡◌, ℕ, zero, suc, ◌+◌, ◌-◌, ◌<◌, ◌≤◌, Bool, true, false, eqb, List, length, get_or, is_ok, IsOk, Ok, Err, Decides, Result, sym, refl, ap, ◌∙◌, subst, ⊎_elim, arith, MatchResult, rules}
 use mathlib.Core.Path.{fun_ext}
 use Rattle.std.specs.List.{ContainsAt as Has}
 use Rattle.std.specs.List.Sorted.{IsStrictlyIncreasing}
@@ -11,6 +11,7 @@ use Rattle.rising.specs.Ascent.{Rises, Spot, Gap, With, Without, AfterInsert, Af
 use Rattle.store.specs.Members.{listed, Under}
 use Rattle.store.specs.Sets.{with_fact}
 use Rattle.rising.proofs.Ascents.{gap_missing}
+use Rattle.std.proofs.lemmas.Cmp.{nat_cmp_total}
 
 -- m places on, a member is greater by m or more
 far : (xs : List ℕ) → IsStrictlyIncreasing xs → (m i : ℕ) → i + m < length xs → get_or xs i 0 + m ≤ get_or xs (i + m) 0
@@ -109,7 +110,7 @@ under_without xs ys k n w under i h = under_has xs n _ under (w.only (get_or ys 
 -- the set has k where the list finds it
 pub find_listed : (xs : List ℕ) (k : ℕ) (r : Result ℕ ℕ) → MatchResult r (Spot xs k) (Gap ◌<◌ xs k) → is_ok r ≡ listed xs k
 find_listed xs k (Ok i) spot = sym (listed_is xs k (i, spot.within, spot.is))
-find_listed xs k (Err i) gap = sym (listed_not xs k (gap_missing ◌<◌ (λ x h. absurd (let bad : ⊥ = omega arith in bad)) xs k i gap))
+find_listed xs k (Err i) gap = sym (listed_not xs k (gap_missing nat_cmp_total (λ x y. search rules) xs k i gap))
 
 module _ (xs ys : List ℕ) (k n : ℕ) (climbs : IsStrictlyIncreasing xs) (under : Under n xs) where
   -- an insertion keeps the list rising and below n
@@ -119,8 +120,9 @@ module _ (xs ys : List ℕ) (k n : ℕ) (climbs : IsStrictlyIncreasing xs) (unde
   insert_sound room (Err e) lt after = (subst IsStrictlyIncreasing (sym after.2) climbs, subst (Under n) (sym after.2) under)
 
   -- a list with n places or more is never full for a number below n
-  pub insert_fits : (room : ℕ) (e : Full) → k < n → n ≤ room → AfterInsert ◌<◌ room xs ys k (Err e) → ⊥
-  insert_fits room e lt le after = after.0 (full_has xs n climbs under (omega (arith, after.1)) k lt)
+  pub insert_fits : (room : ℕ) (r : Result Bool Full) → k < n → n ≤ room → AfterInsert ◌<◌ room xs ys k r → IsOk r
+  insert_fits room (Ok fresh) lt le after = refl
+  insert_fits room (Err e) lt le after = absurd (after.0 (full_has xs n climbs under (omega (arith, after.1)) k lt))
 
   -- the set after an insertion
   pub insert_set : (room : ℕ) (fresh : Bool) → AfterInsert ◌<◌ room xs ys k (Ok fresh) → listed ys ≡ with_fact (listed xs) k true

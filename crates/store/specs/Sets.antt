@@ -18,6 +18,10 @@ with_fact s k present = λ j. cond (j == k) present (s j)
 abbrev pub answered : {X : Type 0} → ℕ → ℕ → X → Result X Fault
 answered size k x = cond (nat_lt k size) (Ok x) (Err (refusal 31 Store k))
 
+-- what a store of that size answers to a call that needs n places
+abbrev pub placed : ℕ → ℕ → Result (Unit {0}) Fault
+placed size n = cond (nat_lt size n) (Err (refusal 21 Run n)) (Ok tt)
+
 -- the set after a put to a store of that size
 abbrev pub after_put : ℕ → State → ℕ → Bool → State
 after_put size s k present = cond (nat_lt k size) (with_fact s k present) s

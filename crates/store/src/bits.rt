@@ -4,8 +4,9 @@ ghost use Rattle.store.specs.Packed.{bit_size, bit_facts, size_of, facts_of, cle
 ghost use Rattle.store.specs.Sets.{none, answered, after_put};
 ghost use Rattle.store.specs.Within.{facts_within};
 
+use crate::places::inside;
 use crate::store::Store;
-use fault::{Cause, Fault, Layer};
+use fault::Fault;
 
 // A store over bytes that another keeps.
 #[derive(Drop)]
@@ -32,18 +33,11 @@ impl Store for Bits<'_> {
     ghost within = { λ s k h. facts_within s.bytes.now k h };
 
     fn size(&self) -> u32 {
-        let n = self.bytes.len();
-        if n >= 8192 { 65536 } else { 8 * n as u32 }
+        8 * self.bytes.len().min(8192) as u32
     }
 
     fn has(&self, k: u32) -> Result<bool, Fault> {
-        if k >= self.size() {
-            return Err(Fault {
-                cause: Cause::OutsideStore,
-                layer: Layer::Store,
-                place: k as u64,
-            });
-        }
+        inside(self.size(), k)?;
         let byte = self.bytes[k as usize / 8];
         Ok((byte >> (k % 8)) & 1 == 1)
     }
@@ -54,17 +48,14 @@ impl Store for Bits<'_> {
         ensures answer { result ≡ answered (size_of self.old) k tt }
         ensures rest { drop 8192 self.new.bytes.now ≡ drop 8192 self.old.bytes.now }
     {
-        if k >= self.size() {
-            return Err(Fault {
-                cause: Cause::OutsideStore,
-                layer: Layer::Store,
-                place: k as u64,
-            });
-        }
-        let byte = self.bytes[k as usize / 8];
+        inside(self.size(), k)?;
         let mask = 1u8 << (k % 8);
-        let changed = if present { byte | mask } else { byte & !mask };
-        self.bytes[k as usize / 8] = changed;
+        let byte = &mut self.bytes[k as usize / 8];
+        if present {
+            *byte |= mask;
+        } else {
+            *byte &= !mask;
+        }
         Ok(())
     }
 
@@ -77,7 +68,7 @@ impl Store for Bits<'_> {
     }
 }
 
-// Clears the bytes that hold facts.
+// Clears the bytes that hold facts. It takes the bytes alone, as the proof does not see through the field what fill writes.
 fn clear(bytes: &mut [u8])
     ensures { bytes.new ≡ cleared bytes.old }
 {

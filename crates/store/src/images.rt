@@ -2,6 +2,7 @@
 ghost use Rattle.std.specs.Prelude.{◌≡◌, length};
 ghost use Rattle.store.specs.Sets.{after_copy, copied};
 
+use crate::places::has_places;
 use crate::store::Store;
 use fault::{Cause, Fault, Layer};
 
@@ -9,21 +10,12 @@ use fault::{Cause, Fault, Layer};
 pub fn room_for<S: Store>(store: &S, image: &[u8], n: u32) -> Result<(), Fault>
     ensures { result ≡ copied (S.extent store.now) (length image.now) n }
 {
-    if store.size() < n {
-        return Err(Fault {
-            cause: Cause::StoreTooSmall,
-            layer: Layer::Run,
-            place: n as u64,
-        });
-    }
+    has_places(store, n)?;
     if image.len() < n as usize {
-        return Err(Fault {
-            cause: Cause::ImageTooShort,
-            layer: Layer::Run,
-            place: n as u64,
-        });
+        Err(Fault::new(Cause::ImageTooShort, Layer::Run, n.into()))
+    } else {
+        Ok(())
     }
-    Ok(())
 }
 
 // Copies the first n facts into an image.
@@ -33,10 +25,7 @@ pub fn copy<S: Store>(store: &S, image: &mut [u8], n: u32) -> Result<(), Fault>
 {
     room_for(store, image, n)?;
     for k in 0..n {
-        let Ok(there) = store.has(k) else {
-            unreachable()
-        };
-        image[k as usize] = there as u8;
+        image[k as usize] = store.has(k).unwrap().into();
     }
     Ok(())
 }

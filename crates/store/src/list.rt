@@ -7,8 +7,9 @@ ghost use Rattle.store.specs.Members.{Under};
 ghost use Rattle.store.specs.Sets.{none};
 ghost use Rattle.store.specs.Within.{listed_within};
 
+use crate::places::inside;
 use crate::store::Store;
-use fault::{Cause, Fault, Layer};
+use fault::Fault;
 use rising::Rising;
 
 // A store over slots that another keeps, one for each fact that it can hold.
@@ -45,32 +46,16 @@ impl Store for ListStore<'_> {
     }
 
     fn has(&self, k: u32) -> Result<bool, Fault> {
-        if k < self.size() {
-            Ok(self.list.find(&k).is_ok())
-        } else {
-            Err(Fault {
-                cause: Cause::OutsideStore,
-                layer: Layer::Store,
-                place: k as u64,
-            })
-        }
+        inside(self.size(), k)?;
+        Ok(self.list.find(&k).is_ok())
     }
 
     fn put(&mut self, k: u32, present: bool) -> Result<(), Fault> {
-        if k >= self.size() {
-            return Err(Fault {
-                cause: Cause::OutsideStore,
-                layer: Layer::Store,
-                place: k as u64,
-            });
-        }
+        inside(self.size(), k)?;
         if present {
-            match self.list.insert(k) {
-                Ok(_) => {}
-                Err(_) => unreachable(),
-            }
+            self.list.insert(k).unwrap();
         } else {
-            let _ = self.list.remove(&k);
+            self.list.remove(&k);
         }
         Ok(())
     }

@@ -1,34 +1,36 @@
 use Rattle.std.proofs.Common.{ℕ, ◌+◌, sym, ap, ◌∙◌, inl, inr}
 use Rattle.table.specs.declared.kind.Kind.TheVariants.{Not}
 use Rattle.model.specs.Meaning.{Literal, ground}
+use Rattle.rising.specs.declared.literal.Sign.{Sign}
+use Rattle.rising.specs.Literals.{is_adds}
 use Rattle.adl.specs.Held.{tree_of}
 use Rattle.runs.specs.Shown.{bound}
 use Rattle.table.proofs.Codes.{other_code}
 use Rattle.runs.proofs.Shapes.{after_terms}
 use Rattle.runs.proofs.EffectShapes.{change_parts}
 use Rattle.runs.proofs.walk.change.Goals as goal
-use Rattle.runs.proofs.walk.change.Goals.{in-Not, in_default, then-adds, else-adds}
+use Rattle.runs.proofs.walk.change.Goals.{in-Not, in_default}
 
 pub atom_number-atom-requires : goal.atom_number-atom-requires
 atom_number-atom-requires c =
     let p = c.requires.stands in
-    let w = change_parts p.2 c.match-kind_at.adds c.if-adds.start
+    let w = change_parts p.2 (is_adds c.match-kind_at.sign.0) c.match-kind_at.sign.1
     (elim c.match-kind_at.branch [
-      | in-Not w ↦ inl (sym w.in-Not.ensures, w.adds-is)
-      | in_default w ↦ inr (λ q. other_code c.kind_at.result Not w.in_default.not-Not (c.kind_at.ensures ∙ q), w.adds-is)
+      | in-Not w ↦ inl (sym w.in-Not.ensures, ap (λ (p : Sign × ℕ). is_adds p.0) w.sign-is)
+      | in_default w ↦ inr (λ q. other_code c.kind_at.result Not w.in_default.not-Not (c.kind_at.ensures ∙ q), ap (λ (p : Sign × ℕ). is_adds p.0) w.sign-is)
     ])
-    (elim c.if-adds.branch [ then-adds w ↦ inl (w.if-adds.true, w.start-is) | else-adds w ↦ inr (w.if-adds.false, w.start-is) ]) in
+    (elim c.match-kind_at.branch [ in-Not w ↦ inr (ap (λ (p : Sign × ℕ). is_adds p.0) w.sign-is, ap (λ (p : Sign × ℕ). p.1) w.sign-is) | in_default w ↦ inl (ap (λ (p : Sign × ℕ). is_adds p.0) w.sign-is, ap (λ (p : Sign × ℕ). p.1) w.sign-is) ]) in
     record { room = c.requires.room; objects = c.requires.objects; stand = (w.0, p.1, w.2) }
 
 pub returns : goal.returns
 returns c d j s =
-    let w = change_parts s c.match-kind_at.adds c.if-adds.start
+    let w = change_parts s (is_adds c.match-kind_at.sign.0) c.match-kind_at.sign.1
     (elim c.match-kind_at.branch [
-      | in-Not w ↦ inl (sym w.in-Not.ensures, w.adds-is)
-      | in_default w ↦ inr (λ q. other_code c.kind_at.result Not w.in_default.not-Not (c.kind_at.ensures ∙ q), w.adds-is)
+      | in-Not w ↦ inl (sym w.in-Not.ensures, ap (λ (p : Sign × ℕ). is_adds p.0) w.sign-is)
+      | in_default w ↦ inr (λ q. other_code c.kind_at.result Not w.in_default.not-Not (c.kind_at.ensures ∙ q), ap (λ (p : Sign × ℕ). is_adds p.0) w.sign-is)
     ])
-    (elim c.if-adds.branch [ then-adds w ↦ inl (w.if-adds.true, w.start-is) | else-adds w ↦ inr (w.if-adds.false, w.start-is) ]) in
-    let literal : ℕ → Literal = λ n. record { adds = c.match-kind_at.adds; atom = n } in (
+    (elim c.match-kind_at.branch [ in-Not w ↦ inr (ap (λ (p : Sign × ℕ). is_adds p.0) w.sign-is, ap (λ (p : Sign × ℕ). p.1) w.sign-is) | in_default w ↦ inl (ap (λ (p : Sign × ℕ). is_adds p.0) w.sign-is, ap (λ (p : Sign × ℕ). p.1) w.sign-is) ]) in
+    let literal : ℕ → Literal = λ n. record { adds = is_adds c.match-kind_at.sign.0; atom = n } in (
       ap literal (c.atom_number-atom.ensures.atom w.0 j w.2) ∙ ap (ground (tree_of c.args.task.now) (bound c.args.sheet.now c.args.depth)) (sym w.1),
-      ap (λ n. c.if-adds.start + 1 + n) c.arity.ensures ∙ sym (after_terms w.2),
+      ap (λ n. c.match-kind_at.sign.1 + 1 + n) c.arity.ensures ∙ sym (after_terms w.2),
     )
