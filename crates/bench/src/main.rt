@@ -5,7 +5,7 @@ mod large;
 
 use adl::{Sizes, Task};
 use middleware::{LOCK, MUTEX, PUBLISHER, SIZES, TABLE, UNLOCK};
-use protocol::Name;
+use protocol::{Name, Run};
 use runs::TaskRun;
 use std::rt::{Clock, Env};
 use std::time::Instant;

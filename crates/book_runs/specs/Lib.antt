@@ -1,3 +1,2 @@
 pub mod Standing
 pub mod Runs
-pub mod Begins

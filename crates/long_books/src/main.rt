@@ -4,6 +4,7 @@
 use book::{Book, Sizes};
 use book_runs::BookRun;
 use fault::Fault;
+use protocol::Run;
 use std::alloc::{AllocError, Global};
 use store::Bits;
 

@@ -1,8 +1,8 @@
-// Playing lists of calls, one call after the other over one store and one image.
+// Playing lists of calls on a task or a book, one call after the other over one store and one image.
 #![tactic(auto)]
 
-mod on_book;
-mod on_task;
+mod playing;
+mod too_few_places;
 
-pub use on_book::play_book;
-pub use on_task::play;
+pub use playing::play;
+pub use too_few_places::TooFewPlaces;

@@ -20,6 +20,11 @@ pub record Begun : Type 0 where
   pub set : State
   pub answer : Result ℕ Fault
 
+-- the steps of a run, if one was begun
+abbrev pub begun : {R : Type 0} → (R → ℕ) → Result R Fault → Result ℕ Fault
+begun steps (Ok run) = Ok (steps run)
+begun steps (Err f) = Err f
+
 -- what `goal` leaves in the image, and the value of the goal
 pub record Judged : Type 0 where
   pub image : List ℕ

@@ -4,7 +4,8 @@
 mod answering;
 mod calls;
 mod name;
+mod run;
 
-pub use answering::{done, told};
 pub use calls::{Answer, Call};
 pub use name::Name;
+pub use run::Run;

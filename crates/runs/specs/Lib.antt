@@ -3,4 +3,3 @@ pub mod Shown
 pub mod Effects
 pub mod Windows
 pub mod Runs
-pub mod Begins

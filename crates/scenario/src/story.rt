@@ -5,6 +5,7 @@ use middleware::{
     COPY, HEADING, HEADING_SHOWN, LOCK, MUTEX, MUTEX_IS_FREE, PUBLISHER, PUBLISHER_HOLDS, READER,
     READER_HOLDS, SIZES, TIMEOUT, TRACK, TRACK_SHOWN, WRITE,
 };
+use protocol::Run;
 use runs::{Name, TaskRun};
 use std::io;
 use store::Bits;

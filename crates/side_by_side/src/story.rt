@@ -5,6 +5,7 @@ use adl::Task;
 use book::Book;
 use book_runs::BookRun;
 use middleware::{BOOK_SIZES, SIZES};
+use protocol::Run;
 use runs::TaskRun;
 use std::io;
 use store::Bits;

@@ -7,27 +7,17 @@ use adl::Task;
 use cases::{CASES, Case};
 use play::play;
 use protocol::Answer;
+use runs::TaskRun;
 use std::io;
 use store::Bits;
 
 // The most calls of a case.
 const MOST: usize = 12;
 
-fn say(rt: &impl Print, answer: Answer) -> io::Result<()> {
-    match answer {
-        Answer::NoRun => print!(rt; "no run"),
-        Answer::Done => print!(rt; "done"),
-        Answer::Told(truth) => print!(rt; "{truth}"),
-        Answer::Count(steps) => print!(rt; "{steps} steps"),
-        Answer::Refused(fault) => print!(rt; "{fault}"),
-    }
-}
-
 fn say_all(rt: &impl Print, answers: &[Answer]) -> io::Result<()> {
     let mut between = ": ";
     for answer in answers {
-        rt.print(between)?;
-        say(rt, *answer)?;
+        print!(rt; "{between}{answer}")?;
         between = ", ";
     }
     rt.println("")
@@ -43,7 +33,7 @@ fn answers_of(case: &Case) -> [Answer; MOST] {
     let mut bytes = [0; 8];
     let mut store = Bits::over(&mut bytes);
     let mut image = [0; 64];
-    let _ = play(&task, &mut store, &mut image, case.calls, &mut answers);
+    let _ = play::<TaskRun, _>(&task, &mut store, &mut image, case.calls, &mut answers);
     answers
 }
 

@@ -4,8 +4,8 @@ use Rattle.adl_theorems.proofs.WellFormed.{loaded_tasks_are_well_formed}
 use Rattle.agree.proofs.Joining.{agreed}
 use Rattle.agree.proofs.both.play_both.Goals as goal
 
-pub returns-then-on_task-clause-agree : goal.returns-then-on_task-clause-agree
-returns-then-on_task-clause-agree g c played made room order =
+pub returns-clause-agree : goal.returns-clause-agree
+returns-clause-agree g c made room order =
     let t = c.args.task.now in
     let s = g.S.Store in
     let r = g.R.Store in
@@ -13,7 +13,6 @@ returns-then-on_task-clause-agree g c played made room order =
     (s.extent c.args.task_store.now) (r.extent c.args.book_store.now)
     (s.facts c.args.task_store.now) (r.facts c.args.book_store.now)
     c.args.task_image.now c.args.book_image.now c.args.calls.now
-    c.play-on_task.new.answers c.play_book-on_book.new.answers
+    c.play.new.answers c.play-2.new.answers
     (loaded_tasks_are_well_formed (held t) t.formed) made room order
-    (c.play-on_task.ensures.answered c.if-on_task.true)
-    (c.play_book-on_book.ensures.answered played)
+    c.in_ok-play.ensures.answered c.in_ok-play-2.ensures.answered

@@ -1,3 +1,0 @@
-pub mod Plays
-pub mod TaskRuns
-pub mod BookRuns
