@@ -242,11 +242,11 @@ module _ {t : Table} {v i m : ℕ} {cs : List Consequent} {j : ℕ} (s : Consequ
   pub no_consequent : m ≡ 0 → (cs ≡ []) × (j ≡ i)
   no_consequent h = none_read (consequent t s.room s.around) m i cs j h s.reads
 
-  pub first_consequent : (m ≡ 0 → ⊥) → (c : Consequent) × (k : ℕ) × (ds : List Consequent) × (cs ≡ c ∷ ds) × ConsequentAt t v i c k × ConsequentsAt t v k (m - 1) ds j
-  first_consequent h =
-      let n : m ≡ suc (m - 1) = omega arith in
+  pub first_consequent : (n : ℕ) → m ≡ n + 1 → (c : Consequent) × (k : ℕ) × (ds : List Consequent) × (cs ≡ c ∷ ds) × ConsequentAt t v i c k × ConsequentsAt t v k n ds j
+  first_consequent n h =
+      let e : suc n ≡ m = omega arith in
       let read = consequent t s.room s.around in
-      let w = first_read read (m - 1) i cs j (ap (λ x. many read x i) (sym n) ∙ s.reads) in (
+      let w = first_read read n i cs j (ap (λ x. many read x i) e ∙ s.reads) in (
         w.0,
         w.1,
         w.2,
@@ -371,11 +371,11 @@ module _ {t : Table} {v i m : ℕ} {es : List Effect} {j : ℕ} (s : EffectsAt t
   pub no_effect_left : m ≡ 0 → (es ≡ []) × (j ≡ i)
   no_effect_left h = none_read (effect t s.room s.around) m i es j h s.reads
 
-  pub first_effect : (m ≡ 0 → ⊥) → (e : Effect) × (k : ℕ) × (fs : List Effect) × (es ≡ e ∷ fs) × EffectAt t v i e k × EffectsAt t v k (m - 1) fs j
-  first_effect h =
-      let n : m ≡ suc (m - 1) = omega arith in
+  pub first_effect : (n : ℕ) → m ≡ n + 1 → (e : Effect) × (k : ℕ) × (fs : List Effect) × (es ≡ e ∷ fs) × EffectAt t v i e k × EffectsAt t v k n fs j
+  first_effect n h =
+      let e : suc n ≡ m = omega arith in
       let read = effect t s.room s.around in
-      let w = first_read read (m - 1) i es j (ap (λ x. many read x i) (sym n) ∙ s.reads) in (
+      let w = first_read read n i es j (ap (λ x. many read x i) e ∙ s.reads) in (
         w.0,
         w.1,
         w.2,

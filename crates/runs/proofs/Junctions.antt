@@ -3,7 +3,7 @@ use Rattle.std.proofs.Common.{◌≡◌, ℕ, ◌<◌, Bool, true, false, not, �
 use mathlib.Core.Bool.{beq}
 use Rattle.model.specs.Lists.{In, below}
 use Rattle.model.specs.Trees as tree
-use Rattle.model.specs.Trees.{Formula, negation, implication, in_set, members}
+use Rattle.model.specs.Trees.{all, any, Formula, negation, implication, in_set, members}
 use Rattle.model.specs.Meaning.{State, join, over, value, values}
 use Rattle.model.proofs.Members.{in_keep, keep_out, in_below, below_out}
 use Rattle.adl.specs.Tables.{Table}
@@ -91,3 +91,8 @@ module _ (t : tree.Task) (s : State) (sheet : List ℕ) where
   left_to b v w f gs fs e p d q =
       let rest = values t s sheet (junction_for b) (formulas_of gs) in
       q ∙ sym (join_agrees b (value t s sheet f) rest (sym p ∙ agree v b d)) ∙ sym (ap (λ xs. values t s sheet (junction_for b) (formulas_of xs)) e)
+
+  -- no part is left
+  pub none_left : (b : Bool) (fs : List Formula) → fs ≡ [] → b ≡ values t s sheet (junction_for b) (formulas_of fs)
+  none_left true fs e = sym (ap (λ xs. values t s sheet all (formulas_of xs)) e)
+  none_left false fs e = sym (ap (λ xs. values t s sheet any (formulas_of xs)) e)

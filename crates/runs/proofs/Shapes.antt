@@ -1,5 +1,5 @@
 -- What stands at a place of a table, by the kind that the table has there.
-use Rattle.std.proofs.Common.{◌≡◌, ℕ, zero, suc, ◌+◌, ◌-◌, ◌<◌, ◌≤◌, true, false, ◌&&◌, ltb, ◌⊎◌, List, ◌∷◌, length, get_or, sym, refl, ap, ◌∙◌, subst, inl, inr, ⊎_elim, arith}
+use Rattle.std.proofs.Common.{◌≡◌, ℕ, zero, suc, ◌+◌, ◌-◌, ◌<◌, ◌≤◌, true, false, ◌&&◌, ltb, ◌⊎◌, List, [], ◌∷◌, length, get_or, sym, refl, ap, ◌∙◌, subst, inl, inr, ⊎_elim, arith}
 use Rattle.std.proofs.lemmas.Bool.{ltb-true, leb-true, eqb-true, and_parts, or_cases}
 use Rattle.table.specs.declared.places.Place.TheVariants as place
 use Rattle.table.specs.Reading.{entry, bad, good, then, many}
@@ -217,11 +217,11 @@ module _ {t : Table} {v i : ℕ} {f : Formula} {j : ℕ} (s : FormulaAt t v i f 
 -- Formulas one after the other.
 module _ {t : Table} {v i m : ℕ} {fs : List Formula} {j : ℕ} (s : FormulasAt t v i m fs j) where
   -- the first of them, and the others after it
-  pub first_formula : (m ≡ 0 → ⊥) → (f : Formula) × (k : ℕ) × (gs : List Formula) × (fs ≡ f ∷ gs) × FormulaAt t v i f k × FormulasAt t v k (m - 1) gs j
-  first_formula h =
-      let n : m ≡ suc (m - 1) = omega arith in
+  pub first_formula : (n : ℕ) → m ≡ n + 1 → (f : Formula) × (k : ℕ) × (gs : List Formula) × (fs ≡ f ∷ gs) × FormulaAt t v i f k × FormulasAt t v k n gs j
+  first_formula n h =
+      let e : suc n ≡ m = omega arith in
       let read = formula t s.room s.around in
-      let w = first_read read (m - 1) i fs j (ap (λ x. many read x i) (sym n) ∙ s.reads) in (
+      let w = first_read read n i fs j (ap (λ x. many read x i) e ∙ s.reads) in (
         w.0,
         w.1,
         w.2,
@@ -229,3 +229,7 @@ module _ {t : Table} {v i m : ℕ} {fs : List Formula} {j : ℕ} (s : FormulasAt
         record { room = s.room; around = s.around; reads = w.3; known = s.known; few = s.few },
         record { room = s.room; around = s.around; reads = w.4; known = s.known; few = s.few },
       )
+
+  -- none is left
+  pub no_formula : m ≡ 0 → (fs ≡ []) × (j ≡ i)
+  no_formula h = none_read (formula t s.room s.around) m i fs j h s.reads

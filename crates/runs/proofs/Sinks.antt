@@ -1,5 +1,5 @@
 -- What a window holds after a list of literals.
-use Rattle.std.proofs.Common.{◌≡◌, ℕ, zero, suc, ◌+◌, ◌-◌, ◌<◌, ◌≤◌, Bool, true, false, cond, ltb, List, [], ◌∷◌, ◌++◌, map, length, take, drop, set, fold, sym, refl, ap, ◌∙◌, subst, ⊎_elim, sub-one, arith}
+use Rattle.std.proofs.Common.{◌≡◌, Bool, true, false, rules, ℕ, zero, suc, ◌+◌, ◌-◌, ◌<◌, ◌≤◌, cond, ltb, List, [], ◌∷◌, ◌++◌, map, length, take, drop, set, fold, sym, refl, ap, ◌∙◌, subst, ⊎_elim, sub-one, arith}
 use Rattle.std.proofs.lemmas.Bool.{cases_lt, lt-ltb, le-ltb, cond-true, cond-false}
 use Rattle.std.proofs.lemmas.List.{append-nil, append_assoc, take_more_set, length-set, length-map, map_push, drop_all, take_all, length-take-le}
 use Rattle.model.specs.Meaning.{Literal}
@@ -7,7 +7,7 @@ use Rattle.rising.specs.declared.literal.Literal as code
 use Rattle.rising.specs.Literals.{is_adds, sign_of}
 use Rattle.runs.specs.declared.window.Window.{Window}
 use Rattle.runs.specs.Effects.{meant}
-use Rattle.runs.specs.Windows.{written, offered, kept}
+use Rattle.runs.specs.Windows.{packed, written, offered, kept}
 
 sign_is : (b : Bool) → is_adds (sign_of b) ≡ b
 sign_is true = refl
@@ -88,3 +88,7 @@ fresh_filled w v k ls p n s e =
     let h = filled ls w.items 0 k p (omega arith) in
     let q : v ≡ fold offered (W 0 k) ls = e ∙ ap (λ (i : ℕ). fold offered (W i w.skip) ls) n ∙ ap (λ (j : ℕ). fold offered (W 0 j) ls) s in
     subst (λ (u : Window). (u.len ≤ 64) × (u.len ≡ length (kept u)) × (kept u ≡ take 64 (drop k ls))) (sym q) (h.few, h.counted, h.is)
+
+-- a window that takes no more is left as it is
+pub packed_stays : (w : Window) (l : Literal) → packed w ≡ true → offered w l ≡ w
+packed_stays w l e = search rules

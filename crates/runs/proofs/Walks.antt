@@ -1,18 +1,15 @@
 -- Handing over the literals of an effect, part by part and member by member.
-use Rattle.std.proofs.Common.{◌≡◌, ℕ, zero, suc, ◌+◌, ◌<◌, ◌≤◌, Bool, true, false, cond, List, [], ◌∷◌, ◌++◌, length, get_or, take, set, fold, sym, refl, ap, ◌∙◌, subst, ⊎_elim, add-one, arith}
+use Rattle.std.proofs.Common.{◌≡◌, ℕ, zero, suc, ◌+◌, ◌<◌, ◌≤◌, Bool, true, false, cond, List, [], ◌∷◌, ◌++◌, get_or, fold, sym, refl, ap, ◌∙◌, ⊎_elim, add-one, arith}
 use Rattle.std.proofs.lemmas.List.{append-nil, append_assoc, map-append}
 use Rattle.std.proofs.lemmas.Bool.{cases_lt}
 use Rattle.model.specs.Lists.{below, keep, gather}
-use Rattle.model.specs.Forming.{Within}
 use Rattle.model.specs.Meaning.{State, Literal, Part, value, bind, ground, parts, all_parts}
 use Rattle.model.specs.Trees.{Task, Formula, outcomes_of, all_outcomes, Consequent, Effect, for_each, when, in_set, members}
-use Rattle.model.proofs.Numbers.{within_bind}
 use Rattle.adl.specs.Tables.{Table}
 use Rattle.adl.specs.Reads.{consequents_of, effects_of}
 use Rattle.adl.specs.Loads.{accepted, task_of}
 use Rattle.runs.specs.Effects.{consequent_literals, consequents_literals, effect_literals, effects_literals}
 use Rattle.adl_theorems.proofs.Standing.{same_objects, type_at}
-use Rattle.runs.proofs.Sheets.{one_more_bound}
 
 -- Lists.
 
@@ -92,12 +89,6 @@ pub members_in : (t : Table) → accepted t ≡ true → (ty : ℕ) → ty < t.t
 members_in t h ty l =
     ap (λ s. keep (in_set s) (below t.objects)) (sym (type_at t h ty l)) ∙ ap (λ n. keep (in_set (get_or (task_of t).types ty 0)) (below n)) (sym (same_objects t h))
 
--- The sheet.
-
--- one more variable stands for an object of the task
-pub one_more_within : (n : ℕ) (B O : List ℕ) (d before o : ℕ) → d < length O → set B d before ≡ O → Within n (take d O) → o < n → Within n (take (d + 1) (set B d o))
-one_more_within n B O d before o h e w l = subst (Within n) (sym (one_more_bound B O d before o h e)) (within_bind n (take d O) o w l)
-
 -- Literals.
 
 module _ {B : Type 0} (f : B → Literal → B) (T : Task) (sh : List ℕ) (a b : B) where
@@ -118,10 +109,10 @@ module _ {B : Type 0} (f : B → Literal → B) (T : Task) (sh : List ℕ) (a b 
     from_effect e g q p = p ∙ ap (λ (h : Effect). fold f a (effect_literals T s sh h)) (sym q)
 
     -- the first effect and the others
-    pub first_effect_and_rest : (e : Effect) (fs es : List Effect) (x : B) (sh' : List ℕ) → es ≡ e ∷ fs → sh' ≡ sh → x ≡ fold f a (effect_literals T s sh e) → b ≡ fold f x (effects_literals T s sh' fs)
+    pub first_effect_and_rest : (e : Effect) (fs es : List Effect) (x : B) → es ≡ e ∷ fs → x ≡ fold f a (effect_literals T s sh e) → b ≡ fold f x (effects_literals T s sh fs)
         → b ≡ fold f a (effects_literals T s sh es)
-    first_effect_and_rest e fs es x sh' m r p q =
-        q ∙ ap (λ (z : List ℕ). fold f x (effects_literals T s z fs)) r ∙ ap (λ (z : B). fold f z (effects_literals T s sh fs)) p
+    first_effect_and_rest e fs es x m p q =
+        q ∙ ap (λ (z : B). fold f z (effects_literals T s sh fs)) p
         ∙ sym (folded_append f a (effect_literals T s sh e) (effects_literals T s sh fs))
         ∙ ap (fold f a) (sym (gather_append (λ (p : Part). cond (value T s p.sheet p.condition) p.literals []) (parts T sh e) (all_parts T sh (effects_of fs))))
         ∙ ap (λ (h : List Effect). fold f a (effects_literals T s sh h)) (sym m)
@@ -132,9 +123,9 @@ module _ {B : Type 0} (f : B → Literal → B) (T : Task) (sh : List ℕ) (a b 
         p ∙ ap (fold f a) (sym (gather_gather (λ (p : Part). cond (value T s p.sheet p.condition) p.literals []) (λ o. parts T (bind sh o) e) (members T ty)))
 
     -- a WHEN whose condition is true
-    pub when_true : (x : Formula) (c : Consequent) (v : Bool) (sh' : List ℕ) → sh' ≡ sh → v ≡ true → v ≡ value T s sh x → b ≡ fold f a (consequent_literals T sh' c) → b ≡ fold f a (effect_literals T s sh (when x c))
-    when_true x c v sh' r h k p =
-        p ∙ ap (λ (z : List ℕ). fold f a (consequent_literals T z c)) r ∙ ap (fold f a) (sym (append-nil (consequent_literals T sh c)))
+    pub when_true : (x : Formula) (c : Consequent) (v : Bool) → v ≡ true → v ≡ value T s sh x → b ≡ fold f a (consequent_literals T sh c) → b ≡ fold f a (effect_literals T s sh (when x c))
+    when_true x c v h k p =
+        p ∙ ap (fold f a) (sym (append-nil (consequent_literals T sh c)))
         ∙ ap (λ (z : Bool). fold f a (cond z (consequent_literals T sh c) [] ++ [])) (sym h ∙ k)
 
   -- a WHEN whose condition is false

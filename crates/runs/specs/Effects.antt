@@ -1,4 +1,5 @@
 -- Where effects stand in a table, and the literals that they bring about.
+use Rattle.rising.specs.Literals.{is_adds}
 use Rattle.std.specs.Prelude.{◌≡◌, ℕ, ◌+◌, ◌≤◌, List, map, slice_index_or}
 use Rattle.table.specs.Reading.{Out, good, many, then}
 use Rattle.table.specs.declared.places.Place.TheVariants as place
@@ -6,8 +7,12 @@ use Rattle.model.specs.Meaning.{State, Literal, value, ground, parts, all_parts,
 use Rattle.model.specs.Trees.{Task, Change, Consequent, outcomes_of, all_outcomes, Effect}
 use Rattle.adl.specs.Tables.{Table, Around, head}
 use Rattle.adl.specs.Reads.{change_by, consequent, consequents_of, effect, effects_of}
+use Rattle.adl.specs.Held.{held, tree_of}
+use Rattle.protocol.specs.Shown.{shown}
 use Rattle.rising.specs.declared.literal.Literal as code
-use Rattle.rising.specs.Literals.{is_adds}
+use Rattle.runs.specs.declared.sheet.Sheet.{Sheet}
+use Rattle.runs.specs.declared.sheet.Scene.{Scene}
+use Rattle.runs.specs.Shown.{bound}
 
 -- the literal that the code's literal means
 abbrev pub meant : code.Literal → Literal
@@ -55,6 +60,23 @@ pub record EffectsAt (t : Table) (v i m : ℕ) (es : List Effect) (j : ℕ) : Ty
   pub known : around.variables ≡ v
   pub few : v ≤ around.quantifiers + 4
 
+-- an atom that is added or deleted, or a consequent, stands from place i to place j
+abbrev pub ChangeIn : Sheet → ℕ → Change → ℕ → Type 0
+ChangeIn s i c j = ChangeAt (held s.task.now) s.depth i c j
+
+abbrev pub ConsequentIn : Sheet → ℕ → Consequent → ℕ → Type 0
+ConsequentIn s i c j = ConsequentAt (held s.task.now) s.depth i c j
+
+abbrev pub ConsequentsIn : Sheet → ℕ → ℕ → List Consequent → ℕ → Type 0
+ConsequentsIn s i m cs j = ConsequentsAt (held s.task.now) s.depth i m cs j
+
+-- an effect stands from place i to place j
+abbrev pub EffectIn : Scene → ℕ → Effect → ℕ → Type 0
+EffectIn s i e j = EffectAt (held s.sheet.task.now) s.sheet.depth i e j
+
+abbrev pub EffectsIn : Scene → ℕ → ℕ → List Effect → ℕ → Type 0
+EffectsIn s i m es j = EffectsAt (held s.sheet.task.now) s.sheet.depth i m es j
+
 -- the literals of a consequent
 abbrev pub consequent_literals : Task → List ℕ → Consequent → List Literal
 consequent_literals t sheet c = map (ground t sheet) (outcomes_of c)
@@ -68,3 +90,10 @@ effect_literals t s sheet e = literals_where (value t s) (parts t sheet e)
 
 abbrev pub effects_literals : Task → State → List ℕ → List Effect → List Literal
 effects_literals t s sheet es = literals_where (value t s) (all_parts t sheet (effects_of es))
+
+-- the literals of an effect in a scene
+abbrev pub literals_in : Scene → Effect → List Literal
+literals_in s e = effect_literals (tree_of s.sheet.task.now) (shown s.image.now) (bound s.sheet) e
+
+abbrev pub all_literals_in : Scene → List Effect → List Literal
+all_literals_in s es = effects_literals (tree_of s.sheet.task.now) (shown s.image.now) (bound s.sheet) es

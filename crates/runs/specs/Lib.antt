@@ -1,3 +1,4 @@
+pub mod Objects
 pub mod Standing
 pub mod Shown
 pub mod Effects

@@ -4,7 +4,6 @@ ghost use Rattle.model.specs.Trees.{number};
 ghost use Rattle.adl.specs.Held.{tree_of};
 ghost use Rattle.protocol.specs.Steps.{put_numbers};
 
-use crate::numbering::atom_number;
 use crate::sheet::Sheet;
 use adl::{Task, arity};
 use store::Store;
@@ -14,11 +13,11 @@ pub(crate) fn put_facts<S: Store>(task: &Task, store: &mut S)
     ensures size { S.extent store.new ≡ S.extent store.old }
     ensures set { S.facts store.new ≡ put_numbers (S.extent store.old) (map (λ f. number (tree_of task.now) f.predicate f.arguments) (tree_of task.now).facts) (S.facts store.old) }
 {
-    let sheet = Sheet::of(&[]);
+    let sheet = Sheet::of(task, &[]);
     let mut at = task.table.sizes.types as usize + task.table.sizes.predicates as usize;
     for _k in 0..task.table.sizes.facts {
         let predicate = task.table.operands[at];
-        let _ = store.put(atom_number(task, &sheet, predicate, at + 1, 0), true);
+        let _ = store.put(sheet.atom_number(predicate, at + 1), true);
         at += 1 + arity(&task.table, predicate) as usize;
     }
 }

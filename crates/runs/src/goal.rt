@@ -6,9 +6,7 @@ ghost use Rattle.protocol.specs.Shown.{shown};
 ghost use Rattle.adl.specs.Held.{tree_of};
 ghost use Rattle.protocol.specs.Steps.{put_step};
 
-use crate::judge::judge;
-use crate::sheet::Sheet;
-use crate::step::attempt;
+use crate::sheet::{Scene, Sheet};
 use adl::Task;
 use protocol::Name;
 use store::Store;
@@ -18,8 +16,9 @@ pub(crate) fn judge_goal(task: &Task, image: &[u8]) -> bool
     requires { task.now.atoms ≤ length image.now }
     ensures { result ≡ value (tree_of task.now) (shown image.now) [] (tree_of task.now).goal }
 {
-    let mut sheet = Sheet::of(&[]);
-    let (value, _) = judge(task, image, &mut sheet, task.goal_at, 0);
+    let sheet = Sheet::of(task, &[]);
+    let mut scene = Scene { sheet, image };
+    let (value, _) = scene.judge(task.goal_at);
     value
 }
 
@@ -39,5 +38,7 @@ pub(crate) fn perform_operator<S: Store>(
     let start = task.operator_at[name.operator as usize];
     let effect = task.effect_at[name.operator as usize];
     let precondition = start + 1 + task.table.operands[start] as usize;
-    attempt(task, image, name.objects, precondition, effect, store)
+    let sheet = Sheet::of(task, name.objects);
+    let mut scene = Scene { sheet, image };
+    scene.attempt(precondition, effect, store)
 }

@@ -8,7 +8,6 @@ mod judge;
 mod numbering;
 mod run;
 mod sheet;
-mod sink;
 mod skip;
 mod skip_effect;
 mod step;

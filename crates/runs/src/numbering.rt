@@ -1,7 +1,6 @@
 // Terms, and the numbers of atoms.
 ghost use Rattle.std.specs.Prelude.{◌≡◌, ℕ, ◌+◌, ◌<◌, ◌≤◌, List, take, slice_index};
 ghost use Rattle.table.specs.Kinds.{code_of};
-ghost use Rattle.model.specs.Forming.{Within};
 ghost use Rattle.model.specs.Meaning.{object_of, atom_of};
 ghost use Rattle.model.specs.Trees.{Term, atoms_of};
 ghost use Rattle.runs.specs.Standing.{TermAt, TermsAt};
@@ -24,21 +23,6 @@ pub(crate) fn kind_at(task: &Task, at: usize) -> Kind
     }
 }
 
-// The object that the term at place `at` stands for.
-pub(crate) fn term(task: &Task, sheet: &Sheet, at: usize, depth: usize) -> u32
-    requires room { depth ≤ 7 }
-    requires objects { Within task.now.table.sizes.objects (bound sheet.now depth) }
-    requires stands { (x : Term) × TermAt (held task.now) depth at x }
-    ensures small { result < task.now.table.sizes.objects }
-    ensures object { (x : Term) → TermAt (held task.now) depth at x → result ≡ object_of (bound sheet.now depth) x }
-{
-    let operand = task.table.operands[at];
-    match kind_at(task, at) {
-        Kind::Object => operand,
-        _ => sheet.objects[operand as usize],
-    }
-}
-
 // The number of a predicate's first atom.
 fn first_atom(task: &Task, predicate: u32) -> u32
     requires { predicate ≤ task.now.table.sizes.predicates }
@@ -55,23 +39,32 @@ fn first_atom(task: &Task, predicate: u32) -> u32
     first
 }
 
-// The number of the atom whose terms stand from place `at` on.
-pub(crate) fn atom_number(
-    task: &Task,
-    sheet: &Sheet,
-    predicate: u32,
-    at: usize,
-    depth: usize,
-) -> u32
-    requires room { depth ≤ 7 }
-    requires objects { Within task.now.table.sizes.objects (bound sheet.now depth) }
-    requires stand { (ts : List Term) × (j : ℕ) × TermsAt (held task.now) depth predicate at ts j }
-    ensures small { result < task.now.atoms }
-    ensures atom { (ts : List Term) (j : ℕ) → TermsAt (held task.now) depth predicate at ts j → result ≡ atom_of (tree_of task.now) (bound sheet.now depth) predicate ts }
-{
-    let mut digits = 0;
-    for k in 0..arity(&task.table, predicate) {
-        digits = digits * task.table.sizes.objects + term(task, sheet, at + k as usize, depth);
+impl Sheet<'_, '_> {
+    // The object that the term at place `at` stands for.
+    pub(crate) fn term(&self, at: usize) -> u32
+        requires { (x : Term) × TermAt (held self.now.task.now) self.now.depth at x }
+        ensures small { result < self.now.task.now.table.sizes.objects }
+        ensures object { (x : Term) → TermAt (held self.now.task.now) self.now.depth at x → result ≡ object_of (bound self.now) x }
+    {
+        let task = self.task;
+        let operand = task.table.operands[at];
+        match kind_at(task, at) {
+            Kind::Object => operand,
+            _ => self.objects[operand as usize],
+        }
     }
-    first_atom(task, predicate) + digits
+
+    // The number of the atom whose terms stand from place `at` on.
+    pub(crate) fn atom_number(&self, predicate: u32, at: usize) -> u32
+        requires { (ts : List Term) × (j : ℕ) × TermsAt (held self.now.task.now) self.now.depth predicate at ts j }
+        ensures small { result < self.now.task.now.atoms }
+        ensures atom { (ts : List Term) (j : ℕ) → TermsAt (held self.now.task.now) self.now.depth predicate at ts j → result ≡ atom_of (tree_of self.now.task.now) (bound self.now) predicate ts }
+    {
+        let task = self.task;
+        let mut digits = 0;
+        for k in 0..arity(&task.table, predicate) {
+            digits = digits * task.table.sizes.objects + self.term(at + k as usize);
+        }
+        first_atom(task, predicate) + digits
+    }
 }

@@ -1,43 +1,84 @@
-// The sheet of objects that variables stand for, and a guard that binds one of them for a while.
-ghost use Rattle.std.specs.Prelude.{◌≡◌, ◌<◌, ◌≤◌, length, take, slice_set};
+// The sheet of objects that variables stand for, over an image of the state, and a guard that binds one more of them for a while.
+ghost use Rattle.std.specs.Prelude.{◌≡◌, ◌+◌, ◌<◌, ◌≤◌, length, take, slice_index, slice_set};
+ghost use Rattle.model.specs.Forming.{Within};
+ghost use Rattle.runs.specs.Objects.{within_prop};
 
-// An object for each variable: at most four parameters and three quantifiers.
+use adl::Task;
+
+// A task, and an object for each bound variable: at most four parameters and three quantifiers.
 #[derive(Drop)]
-pub struct Sheet {
+pub(crate) struct Sheet<'s, 'a> {
+    pub(crate) task: &'s Task<'a>,
     pub(crate) objects: [u32; 7],
+    pub(crate) depth: usize,
+    ghost room: { depth ≤ 7 },
+    ghost within: { Within task.now.table.sizes.objects (take depth objects) } by { within_prop task.now.table.sizes.objects (take depth objects) },
 }
 
-impl Sheet {
-    // The parameters stand for these objects, and every other variable for object 0.
-    pub(crate) fn of(parameters: &[u32]) -> Sheet
-        requires { length parameters.now ≤ 7 }
-        ensures { take (length parameters.now) result.objects ≡ parameters.now }
+impl<'s, 'a> Sheet<'s, 'a> {
+    ghost use Rattle.runs.specs.Shown.{bound};
+
+    // The parameters stand for these objects, and no other variable is bound.
+    pub(crate) fn of(task: &'s Task<'a>, parameters: &[u32]) -> Sheet<'s, 'a>
+        requires few { length parameters.now ≤ 7 }
+        requires objects { Within task.now.table.sizes.objects parameters.now }
+        ensures task { result.task.now ≡ task.now }
+        ensures depth { result.depth ≡ length parameters.now }
+        ensures bound { bound result ≡ parameters.now }
     {
+        let depth = parameters.len();
         let mut objects = [0; 7];
-        for i in 0..parameters.len() {
-            objects[i] = parameters[i];
+        objects[..depth].copy_from_slice(parameters);
+        Sheet {
+            task,
+            objects,
+            depth,
         }
-        Sheet { objects }
     }
 }
 
-// A variable that is bound for a while: its slot gets back what it held before.
-pub(crate) struct Bound<'a> {
-    pub(crate) sheet: &'a mut Sheet,
-    pub(crate) slot: usize,
+// A sheet, and an image that shows every atom of its task.
+#[derive(Drop)]
+pub(crate) struct Scene<'s, 'a> {
+    pub(crate) sheet: Sheet<'s, 'a>,
+    pub(crate) image: &'s [u8],
+    ghost seen: { sheet.task.now.atoms ≤ length image.now },
+}
+
+impl Scene<'_, '_> {
+    ghost use Rattle.runs.specs.Shown.{OneMore};
+
+    // Binds one variable more to this object, and tells what its slot held before.
+    pub(crate) fn bind(&mut self, object: u32) -> u32
+        requires room { self.old.sheet.depth < 7 }
+        requires known { object < self.old.sheet.task.now.table.sizes.objects }
+        ensures before { result ≡ slice_index self.old.sheet.objects self.old.sheet.depth }
+        ensures bound { OneMore self.old object self.new }
+    {
+        let slot = self.sheet.depth;
+        let before = self.sheet.objects[slot];
+        self.sheet.objects[slot] = object;
+        self.sheet.depth = slot + 1;
+        before
+    }
+}
+
+// A scene with one variable more for a while: its slot gets back what it held before.
+pub(crate) struct Bound<'b, 's, 'a> {
+    pub(crate) scene: &'b mut Scene<'s, 'a>,
     pub(crate) before: u32,
 }
 
-impl Drop for Bound<'_> {
+impl Drop for Bound<'_, '_, '_> {
+    ghost use Rattle.runs.specs.Shown.{OneLess};
+
     fn drop(self)
-        requires { self.slot < 7 }
-        ensures { self.exit.0.now.objects ≡ slice_set self.entry.sheet.now.objects self.entry.slot self.entry.before }
+        requires { 0 < self.scene.now.sheet.depth }
+        ensures { OneLess self.entry.scene.now self.entry.before self.exit.0.now }
     {
-        self.sheet.objects[self.slot] = self.before;
-        let Bound {
-            sheet: _,
-            slot: _,
-            before: _,
-        } = self;
+        let Bound { scene, before } = self;
+        let slot = scene.sheet.depth - 1;
+        scene.sheet.depth = slot;
+        scene.sheet.objects[slot] = before;
     }
 }

@@ -9,7 +9,7 @@ use adl::{Task, arity};
 use table::Kind;
 
 // The place after the formula at place `at`.
-#[cycle(skip_skip_all)]
+#[cycle(skipping)]
 pub(crate) fn skip(task: &Task, at: usize) -> usize
     requires { (v : ℕ) × (f : Formula) × (j : ℕ) × FormulaAt (held task.now) v at f j }
     ensures { (v : ℕ) (f : Formula) (j : ℕ) → FormulaAt (held task.now) v at f j → result ≡ j }
@@ -28,15 +28,15 @@ pub(crate) fn skip(task: &Task, at: usize) -> usize
     }
 }
 
-// The place after `left` formulas from place `at` on.
-#[cycle(skip_skip_all)]
-pub(crate) fn skip_all(task: &Task, at: usize, left: u32) -> usize
-    requires { (v : ℕ) × (fs : List Formula) × (j : ℕ) × FormulasAt (held task.now) v at left fs j }
-    ensures { (v : ℕ) (fs : List Formula) (j : ℕ) → FormulasAt (held task.now) v at left fs j → result ≡ j }
+// The place after `count` formulas from place `at` on.
+#[cycle(skipping)]
+pub(crate) fn skip_all(task: &Task, at: usize, count: u32) -> usize
+    requires { (v : ℕ) × (fs : List Formula) × (j : ℕ) × FormulasAt (held task.now) v at count fs j }
+    ensures { (v : ℕ) (fs : List Formula) (j : ℕ) → FormulasAt (held task.now) v at count fs j → result ≡ j }
 {
-    if left == 0 {
-        return at;
+    let mut next = at;
+    for _k in 0..count {
+        next = skip(task, next);
     }
-    let next = skip(task, at);
-    skip_all(task, next, left - 1)
+    next
 }

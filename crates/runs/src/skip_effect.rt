@@ -22,7 +22,7 @@ fn skip_change(task: &Task, at: usize) -> usize
 }
 
 // The place after the consequent at place `at`.
-#[cycle(skip_consequent_skip_consequents)]
+#[cycle(skipping_consequents)]
 pub(crate) fn skip_consequent(task: &Task, at: usize) -> usize
     requires { (v : ℕ) × (c : Consequent) × (j : ℕ) × ConsequentAt (held task.now) v at c j }
     ensures { (v : ℕ) (c : Consequent) (j : ℕ) → ConsequentAt (held task.now) v at c j → result ≡ j }
@@ -33,20 +33,20 @@ pub(crate) fn skip_consequent(task: &Task, at: usize) -> usize
     }
 }
 
-#[cycle(skip_consequent_skip_consequents)]
-fn skip_consequents(task: &Task, at: usize, left: u32) -> usize
-    requires { (v : ℕ) × (cs : List Consequent) × (j : ℕ) × ConsequentsAt (held task.now) v at left cs j }
-    ensures { (v : ℕ) (cs : List Consequent) (j : ℕ) → ConsequentsAt (held task.now) v at left cs j → result ≡ j }
+#[cycle(skipping_consequents)]
+fn skip_consequents(task: &Task, at: usize, count: u32) -> usize
+    requires { (v : ℕ) × (cs : List Consequent) × (j : ℕ) × ConsequentsAt (held task.now) v at count cs j }
+    ensures { (v : ℕ) (cs : List Consequent) (j : ℕ) → ConsequentsAt (held task.now) v at count cs j → result ≡ j }
 {
-    if left == 0 {
-        return at;
+    let mut next = at;
+    for _k in 0..count {
+        next = skip_consequent(task, next);
     }
-    let next = skip_consequent(task, at);
-    skip_consequents(task, next, left - 1)
+    next
 }
 
 // The place after the effect at place `at`.
-#[cycle(skip_effect_skip_effects)]
+#[cycle(skipping_effects)]
 pub(crate) fn skip_effect(task: &Task, at: usize) -> usize
     requires { (v : ℕ) × (e : Effect) × (j : ℕ) × EffectAt (held task.now) v at e j }
     ensures { (v : ℕ) (e : Effect) (j : ℕ) → EffectAt (held task.now) v at e j → result ≡ j }
@@ -62,14 +62,14 @@ pub(crate) fn skip_effect(task: &Task, at: usize) -> usize
     }
 }
 
-#[cycle(skip_effect_skip_effects)]
-fn skip_effects(task: &Task, at: usize, left: u32) -> usize
-    requires { (v : ℕ) × (es : List Effect) × (j : ℕ) × EffectsAt (held task.now) v at left es j }
-    ensures { (v : ℕ) (es : List Effect) (j : ℕ) → EffectsAt (held task.now) v at left es j → result ≡ j }
+#[cycle(skipping_effects)]
+fn skip_effects(task: &Task, at: usize, count: u32) -> usize
+    requires { (v : ℕ) × (es : List Effect) × (j : ℕ) × EffectsAt (held task.now) v at count es j }
+    ensures { (v : ℕ) (es : List Effect) (j : ℕ) → EffectsAt (held task.now) v at count es j → result ≡ j }
 {
-    if left == 0 {
-        return at;
+    let mut next = at;
+    for _k in 0..count {
+        next = skip_effect(task, next);
     }
-    let next = skip_effect(task, at);
-    skip_effects(task, next, left - 1)
+    next
 }

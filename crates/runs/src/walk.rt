@@ -1,192 +1,158 @@
 // Finding the literals of an effect over the table and the image alone.
-ghost use Rattle.std.specs.Prelude.{◌≡◌, ℕ, ◌+◌, ◌<◌, ◌≤◌, List, length, fold};
-ghost use Rattle.model.specs.Forming.{Within};
+ghost use Rattle.std.specs.Prelude.{◌≡◌, ℕ, ◌+◌, ◌<◌, ◌≤◌, List, length, take, drop, fold};
 ghost use Rattle.model.specs.Lists.{gather};
 ghost use Rattle.model.specs.Meaning.{bind, ground};
 ghost use Rattle.model.specs.Trees.{Change, Consequent, Effect, members};
-ghost use Rattle.runs.specs.Effects.{ChangeAt, ConsequentAt, ConsequentsAt, EffectAt, EffectsAt, meant, consequent_literals, consequents_literals, effect_literals, effects_literals};
+ghost use Rattle.runs.specs.Effects.{ChangeIn, ConsequentIn, ConsequentsIn, EffectAt, EffectIn, EffectsIn, meant, consequent_literals, consequents_literals, effect_literals, literals_in, all_literals_in};
 ghost use Rattle.protocol.specs.Shown.{shown};
 ghost use Rattle.runs.specs.Shown.{bound};
+ghost use Rattle.runs.specs.Windows.{offered, kept};
 ghost use Rattle.adl.specs.Held.{held, tree_of};
 
-use crate::judge::judge;
-use crate::numbering::{atom_number, kind_at};
-use crate::sheet::{Bound, Sheet};
-use crate::sink::Sink;
+use crate::numbering::kind_at;
+use crate::sheet::{Bound, Scene, Sheet};
 use crate::skip_effect::{skip_consequent, skip_effect};
-use adl::{Task, arity};
+use crate::window::Window;
+use adl::arity;
 use rising::{Literal, Sign};
 use table::Kind;
 
-// The literal of the atom at place `at`, plain or under NOT, and the place after it.
-fn change(task: &Task, sheet: &Sheet, at: usize, depth: usize) -> (Literal, usize)
-    requires room { depth ≤ 7 }
-    requires objects { Within task.now.table.sizes.objects (bound sheet.now depth) }
-    requires stands { (c : Change) × (j : ℕ) × ChangeAt (held task.now) depth at c j }
-    ensures { (c : Change) (j : ℕ) → ChangeAt (held task.now) depth at c j →
-        (meant result.0 ≡ ground (tree_of task.now) (bound sheet.now depth) c) × (result.1 ≡ j) }
-{
-    let (sign, start) = match kind_at(task, at) {
-        Kind::Not => (Sign::Deletes, at + 1),
-        _ => (Sign::Adds, at),
-    };
-    let predicate = task.table.operands[start];
-    let atom = atom_number(task, sheet, predicate, start + 1, depth);
-    (
-        Literal { atom, sign },
-        start + 1 + arity(&task.table, predicate) as usize,
-    )
-}
-
-// Hands the literals of the consequent at place `at` to the sink, and tells the place after it.
-#[cycle(walk_consequent_walk_consequents)]
-fn walk_consequent<K: Sink>(
-    task: &Task,
-    sheet: &Sheet,
-    at: usize,
-    depth: usize,
-    sink: &mut K,
-) -> usize
-    requires room { depth ≤ 7 }
-    requires objects { Within task.now.table.sizes.objects (bound sheet.now depth) }
-    requires stands { (c : Consequent) × (j : ℕ) × ConsequentAt (held task.now) depth at c j }
-    ensures { (c : Consequent) (j : ℕ) → ConsequentAt (held task.now) depth at c j →
-        (sink.new ≡ fold K.Sink.taken sink.old (consequent_literals (tree_of task.now) (bound sheet.now depth) c)) × (result ≡ j) }
-{
-    match kind_at(task, at) {
-        Kind::And => walk_consequents(task, sheet, at + 1, depth, task.table.operands[at], sink),
-        _ => {
-            let (literal, next) = change(task, sheet, at, depth);
-            sink.take(literal);
-            next
-        }
+impl Sheet<'_, '_> {
+    // The literal of the atom at place `at`, plain or under NOT, and the place after it.
+    fn change(&self, at: usize) -> (Literal, usize)
+        requires { (c : Change) × (j : ℕ) × ChangeIn self.now at c j }
+        ensures { (c : Change) (j : ℕ) → ChangeIn self.now at c j →
+            (meant result.0 ≡ ground (tree_of self.now.task.now) (bound self.now) c) × (result.1 ≡ j) }
+    {
+        let task = self.task;
+        let (sign, start) = match kind_at(task, at) {
+            Kind::Not => (Sign::Deletes, at + 1),
+            _ => (Sign::Adds, at),
+        };
+        let predicate = task.table.operands[start];
+        let atom = self.atom_number(predicate, start + 1);
+        (
+            Literal { atom, sign },
+            start + 1 + arity(&task.table, predicate) as usize,
+        )
     }
-}
 
-// The same of `left` consequents from place `at` on.
-#[cycle(walk_consequent_walk_consequents)]
-fn walk_consequents<K: Sink>(
-    task: &Task,
-    sheet: &Sheet,
-    at: usize,
-    depth: usize,
-    left: u32,
-    sink: &mut K,
-) -> usize
-    requires room { depth ≤ 7 }
-    requires objects { Within task.now.table.sizes.objects (bound sheet.now depth) }
-    requires stand { (cs : List Consequent) × (j : ℕ) × ConsequentsAt (held task.now) depth at left cs j }
-    ensures { (cs : List Consequent) (j : ℕ) → ConsequentsAt (held task.now) depth at left cs j →
-        (sink.new ≡ fold K.Sink.taken sink.old (consequents_literals (tree_of task.now) (bound sheet.now depth) cs)) × (result ≡ j) }
-{
-    if left == 0 {
-        return at;
-    }
-    let next = walk_consequent(task, sheet, at, depth, sink);
-    walk_consequents(task, sheet, next, depth, left - 1, sink)
-}
-
-// Hands the literals of the effect at place `at` to the sink, every WHEN judged in the image, and tells the place after it.
-#[cycle(walk_walk_all_walk_each)]
-pub(crate) fn walk<K: Sink>(
-    task: &Task,
-    image: &[u8],
-    sheet: &mut Sheet,
-    at: usize,
-    depth: usize,
-    sink: &mut K,
-) -> usize
-    requires image { task.now.atoms ≤ length image.now }
-    requires room { depth ≤ 7 }
-    requires objects { Within task.now.table.sizes.objects (bound sheet.old depth) }
-    requires stands { (e : Effect) × (j : ℕ) × EffectAt (held task.now) depth at e j }
-    ensures same { sheet.new ≡ sheet.old }
-    ensures walked { (e : Effect) (j : ℕ) → EffectAt (held task.now) depth at e j →
-        (sink.new ≡ fold K.Sink.taken sink.old (effect_literals (tree_of task.now) (shown image.now) (bound sheet.old depth) e)) × (result ≡ j) }
-{
-    let operand = task.table.operands[at];
-    match kind_at(task, at) {
-        Kind::And => walk_all(task, image, sheet, at + 1, depth, operand, sink),
-        Kind::Forall => {
-            walk_each(task, image, sheet, at + 1, depth, operand, sink);
-            skip_effect(task, at + 1)
-        }
-        Kind::When => {
-            let (condition, consequent) = judge(task, image, sheet, at + 1, depth);
-            if condition {
-                walk_consequent(task, sheet, consequent, depth, sink)
-            } else {
-                skip_consequent(task, consequent)
+    // Offers the literals of the consequent at place `at` to the window, and tells the place after it.
+    #[cycle(walking_consequents)]
+    fn walk_consequent(&self, at: usize, window: &mut Window) -> usize
+        requires { (c : Consequent) × (j : ℕ) × ConsequentIn self.now at c j }
+        ensures { (c : Consequent) (j : ℕ) → ConsequentIn self.now at c j →
+            (window.new ≡ fold offered window.old (consequent_literals (tree_of self.now.task.now) (bound self.now) c)) × (result ≡ j) }
+    {
+        let task = self.task;
+        match kind_at(task, at) {
+            Kind::And => self.walk_consequents(at + 1, task.table.operands[at], window),
+            _ => {
+                let (literal, next) = self.change(at);
+                window.offer(literal);
+                next
             }
         }
-        _ => {
-            let (literal, next) = change(task, sheet, at, depth);
-            sink.take(literal);
-            next
+    }
+
+    // The same of `count` consequents from place `at` on.
+    #[cycle(walking_consequents)]
+    fn walk_consequents(&self, at: usize, count: u32, window: &mut Window) -> usize
+        requires { (cs : List Consequent) × (j : ℕ) × ConsequentsIn self.now at count cs j }
+        ensures { (cs : List Consequent) (j : ℕ) → ConsequentsIn self.now at count cs j →
+            (window.new ≡ fold offered window.old (consequents_literals (tree_of self.now.task.now) (bound self.now) cs)) × (result ≡ j) }
+    {
+        let mut next = at;
+        for _k in 0..count {
+            next = self.walk_consequent(next, window);
         }
+        next
     }
 }
 
-// The same of `left` effects from place `at` on.
-#[cycle(walk_walk_all_walk_each)]
-fn walk_all<K: Sink>(
-    task: &Task,
-    image: &[u8],
-    sheet: &mut Sheet,
-    at: usize,
-    depth: usize,
-    left: u32,
-    sink: &mut K,
-) -> usize
-    requires image { task.now.atoms ≤ length image.now }
-    requires room { depth ≤ 7 }
-    requires objects { Within task.now.table.sizes.objects (bound sheet.old depth) }
-    requires stand { (es : List Effect) × (j : ℕ) × EffectsAt (held task.now) depth at left es j }
-    ensures same { sheet.new ≡ sheet.old }
-    ensures walked { (es : List Effect) (j : ℕ) → EffectsAt (held task.now) depth at left es j →
-        (sink.new ≡ fold K.Sink.taken sink.old (effects_literals (tree_of task.now) (shown image.now) (bound sheet.old depth) es)) × (result ≡ j) }
-{
-    if left == 0 {
-        return at;
-    }
-    let next = walk(task, image, sheet, at, depth, sink);
-    walk_all(task, image, sheet, next, depth, left - 1, sink)
-}
-
-// The same of the effect at place `at` for each member of a type, in rising order.
-#[cycle(walk_walk_all_walk_each)]
-fn walk_each<K: Sink>(
-    task: &Task,
-    image: &[u8],
-    sheet: &mut Sheet,
-    at: usize,
-    depth: usize,
-    type_number: u32,
-    sink: &mut K,
-)
-    requires image { task.now.atoms ≤ length image.now }
-    requires room { depth < 7 }
-    requires objects { Within task.now.table.sizes.objects (bound sheet.old depth) }
-    requires known { type_number < task.now.table.sizes.types }
-    requires stands { (e : Effect) × (j : ℕ) × EffectAt (held task.now) (depth + 1) at e j }
-    ensures same { sheet.new ≡ sheet.old }
-    ensures walked { (e : Effect) (j : ℕ) → EffectAt (held task.now) (depth + 1) at e j →
-        sink.new ≡ fold K.Sink.taken sink.old (gather (λ o. effect_literals (tree_of task.now) (shown image.now) (bind (bound sheet.old depth) o) e) (members (tree_of task.now) type_number)) }
-{
-    let members = task.table.operands[type_number as usize];
-    let before = sheet.objects[depth];
-    let bound = Bound {
-        sheet,
-        slot: depth,
-        before,
-    };
-    for o in 0..task.table.sizes.objects {
-        if (members >> o) % 2 == 1 {
-            if sink.done() {
-                return;
+impl Scene<'_, '_> {
+    // Offers the literals of the effect at place `at` to the window, every WHEN judged in the image, and tells the place after it.
+    #[cycle(walking)]
+    fn walk(&mut self, at: usize, window: &mut Window) -> usize
+        requires { (e : Effect) × (j : ℕ) × EffectIn self.old at e j }
+        ensures same { self.new ≡ self.old }
+        ensures walked { (e : Effect) (j : ℕ) → EffectIn self.old at e j → (window.new ≡ fold offered window.old (literals_in self.old e)) × (result ≡ j) }
+    {
+        let task = self.sheet.task;
+        let operand = task.table.operands[at];
+        match kind_at(task, at) {
+            Kind::And => self.walk_all(at + 1, operand, window),
+            Kind::Forall => {
+                self.walk_each(at + 1, operand, window);
+                skip_effect(task, at + 1)
             }
-            bound.sheet.objects[depth] = o;
-            walk(task, image, bound.sheet, at, depth + 1, sink);
+            Kind::When => {
+                let (condition, consequent) = self.judge(at + 1);
+                if condition {
+                    self.sheet.walk_consequent(consequent, window)
+                } else {
+                    skip_consequent(task, consequent)
+                }
+            }
+            _ => {
+                let (literal, next) = self.sheet.change(at);
+                window.offer(literal);
+                next
+            }
         }
+    }
+
+    // The same of `count` effects from place `at` on.
+    #[cycle(walking)]
+    fn walk_all(&mut self, at: usize, count: u32, window: &mut Window) -> usize
+        requires { (es : List Effect) × (j : ℕ) × EffectsIn self.old at count es j }
+        ensures same { self.new ≡ self.old }
+        ensures walked { (es : List Effect) (j : ℕ) → EffectsIn self.old at count es j → (window.new ≡ fold offered window.old (all_literals_in self.old es)) × (result ≡ j) }
+    {
+        let mut next = at;
+        for _k in 0..count {
+            next = self.walk(next, window);
+        }
+        next
+    }
+
+    // The same of the effect at place `at` for each member of a type, in rising order.
+    #[cycle(walking)]
+    fn walk_each(&mut self, at: usize, type_number: u32, window: &mut Window)
+        requires room { self.old.sheet.depth < 7 }
+        requires known { type_number < self.old.sheet.task.now.table.sizes.types }
+        requires stands { (e : Effect) × (j : ℕ) × EffectAt (held self.old.sheet.task.now) (self.old.sheet.depth + 1) at e j }
+        ensures same { self.new ≡ self.old }
+        ensures walked { (e : Effect) (j : ℕ) → EffectAt (held self.old.sheet.task.now) (self.old.sheet.depth + 1) at e j →
+            window.new ≡ fold offered window.old (gather (λ o. effect_literals (tree_of self.old.sheet.task.now) (shown self.old.image.now) (bind (bound self.old.sheet) o) e) (members (tree_of self.old.sheet.task.now) type_number)) }
+    {
+        let task = self.sheet.task;
+        let members = task.table.operands[type_number as usize];
+        for o in 0..task.table.sizes.objects {
+            if (members >> o) % 2 == 1 {
+                if window.is_packed() {
+                    return;
+                }
+                let before = self.bind(o);
+                let bound = Bound {
+                    scene: self,
+                    before,
+                };
+                bound.scene.walk(at, window);
+            }
+        }
+    }
+
+    // The literals of the effect at place `at` from number `from` on, as many as a window holds.
+    pub(crate) fn literals_from(&mut self, at: usize, from: usize) -> Window
+        requires { (e : Effect) × (j : ℕ) × EffectIn self.old at e j }
+        ensures same { self.new ≡ self.old }
+        ensures few { result.len ≤ 64 }
+        ensures counted { result.len ≡ length (kept result) }
+        ensures found { (e : Effect) (j : ℕ) → EffectIn self.old at e j → kept result ≡ take 64 (drop from (literals_in self.old e)) }
+    {
+        let mut found = Window::fresh(from);
+        self.walk(at, &mut found);
+        found
     }
 }

@@ -1,9 +1,18 @@
-use Rattle.std.proofs.Common.{arith}
+use Rattle.std.proofs.Common.{[], ◌∙◌}
+use Rattle.adl.specs.Held.{tree_of}
+use Rattle.protocol.specs.Shown.{shown}
+use Rattle.runs.proofs.Sheets.{formula_over, value_over}
 use Rattle.runs.proofs.Turns.{goal_stands}
 use Rattle.runs.proofs.goal.judge_goal.Goals as goal
 
 pub judge-value-requires : goal.judge-value-requires
-judge-value-requires c = record { image = c.requires; room = omega arith; objects = tt; stands = (_, _, goal_stands c.args.task.now) }
+judge-value-requires c =
+    let e = c.of-sheet.ensures in
+    let k = c.args.task.now in
+    (_, _, formula_over c.of-sheet.result k [] e.task e.depth e.bound (goal_stands k))
 
 pub returns : goal.returns
-returns c = (c.judge-value.ensures.value _ _ (goal_stands c.args.task.now)).0
+returns c =
+    let e = c.of-sheet.ensures in
+    let k = c.args.task.now in
+    (c.judge-value.ensures.value _ _ (formula_over c.of-sheet.result k [] e.task e.depth e.bound (goal_stands k))).0 ∙ value_over c.of-sheet.result k [] e.task e.depth e.bound (shown c.args.image.now) (tree_of k).goal

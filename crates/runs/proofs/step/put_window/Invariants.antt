@@ -3,8 +3,8 @@ use Rattle.protocol.specs.Steps.{put_literals}
 use Rattle.runs.proofs.Puts.{front}
 use Rattle.runs.proofs.step.put_window.Given as goal
 
-abbrev pub invariant-loop-i : goal.invariant-loop-i
-invariant-loop-i g l =
+abbrev pub invariant-loop-literal : goal.invariant-loop-literal
+invariant-loop-literal g l =
     let m = g.S.Store in
     (m.extent l.store ≡ m.extent l.initial.store)
-    × (m.facts l.store ≡ put_literals (m.extent l.initial.store) l.adds (front l.i l.window.items) (m.facts l.initial.store))
+    × (m.facts l.store ≡ put_literals (m.extent l.initial.store) l.adds (front l.literal-index l.literal-items) (m.facts l.initial.store))
