@@ -1,3 +1,4 @@
 pub mod Standing
+pub mod Scenes
 pub mod Runs
 pub mod Begins

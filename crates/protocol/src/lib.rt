@@ -3,8 +3,10 @@
 
 mod answering;
 mod calls;
+mod image;
 mod name;
 
 pub use answering::{done, told};
 pub use calls::{Answer, Call};
+pub use image::shows;
 pub use name::Name;
