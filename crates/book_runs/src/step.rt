@@ -16,11 +16,11 @@ use table::Kind;
 
 impl Scene<'_, '_> {
     // Puts what the part of an effect at place `at` adds, or deletes, its condition judged; tells the place after it.
-    fn put_clause<S: Store>(self, at: usize, store: &mut S, adds: bool) -> usize
-        requires { is_good (clause (table_in self) at) ≡ true }
-        ensures end { result ≡ next_place (clause (table_in self.entry) at) }
+    fn put_clause<S: Store>(&self, at: usize, store: &mut S, adds: bool) -> usize
+        requires { is_good (clause (table_in self.now) at) ≡ true }
+        ensures end { result ≡ next_place (clause (table_in self.now) at) }
         ensures size { S.extent store.new ≡ S.extent store.old }
-        ensures set { S.facts store.new ≡ put_literals (S.extent store.old) adds (literals_in (state_in self.entry) (clause (table_in self.entry) at)) (S.facts store.old) }
+        ensures set { S.facts store.new ≡ put_literals (S.extent store.old) adds (literals_in (state_in self.now) (clause (table_in self.now) at)) (S.facts store.old) }
     {
         if is_kind(self.table, at, Kind::When) {
             let (holds, literals) = self.judge(511, at + 1);
@@ -31,10 +31,10 @@ impl Scene<'_, '_> {
     }
 
     // Puts what the effect at place `at` adds, or deletes.
-    fn put_effect<S: Store>(self, at: usize, store: &mut S, adds: bool)
-        requires { is_good (effect (table_in self) at) ≡ true }
+    fn put_effect<S: Store>(&self, at: usize, store: &mut S, adds: bool)
+        requires { is_good (effect (table_in self.now) at) ≡ true }
         ensures size { S.extent store.new ≡ S.extent store.old }
-        ensures set { S.facts store.new ≡ put_literals (S.extent store.old) adds (action_literals (state_in self.entry) (items_in (effect (table_in self.entry) at))) (S.facts store.old) }
+        ensures set { S.facts store.new ≡ put_literals (S.extent store.old) adds (action_literals (state_in self.now) (items_in (effect (table_in self.now) at))) (S.facts store.old) }
     {
         let mut next = at + 1;
         for _ in (0..self.table.operands[at]).rev() {
@@ -43,10 +43,10 @@ impl Scene<'_, '_> {
     }
 
     // Takes the step of the effect at place `at`: all that it deletes, then all that it adds.
-    fn take_step<S: Store>(self, at: usize, store: &mut S)
-        requires { is_good (effect (table_in self) at) ≡ true }
+    fn take_step<S: Store>(&self, at: usize, store: &mut S)
+        requires { is_good (effect (table_in self.now) at) ≡ true }
         ensures size { S.extent store.new ≡ S.extent store.old }
-        ensures set { S.facts store.new ≡ put_step (S.extent store.old) (action_literals (state_in self.entry) (items_in (effect (table_in self.entry) at))) (S.facts store.old) }
+        ensures set { S.facts store.new ≡ put_step (S.extent store.old) (action_literals (state_in self.now) (items_in (effect (table_in self.now) at))) (S.facts store.old) }
     {
         let (first, last) = (false, true);
         self.put_effect(at, store, first);
@@ -54,12 +54,12 @@ impl Scene<'_, '_> {
     }
 
     // Judges the precondition at place `at` and, if it is true, takes the step of the effect after it; tells whether.
-    pub(crate) fn attempt<S: Store>(self, at: usize, store: &mut S) -> bool
-        requires stands { is_good (ground (table_in self) 513 at) ≡ true }
-        requires effect { is_good (effect (table_in self) (next_place (ground (table_in self) 513 at))) ≡ true }
+    pub(crate) fn attempt<S: Store>(&self, at: usize, store: &mut S) -> bool
+        requires stands { is_good (ground (table_in self.now) 513 at) ≡ true }
+        requires effect { is_good (effect (table_in self.now) (next_place (ground (table_in self.now) 513 at))) ≡ true }
         ensures size { S.extent store.new ≡ S.extent store.old }
-        ensures judged { result ≡ value_in (state_in self.entry) (ground (table_in self.entry) 513 at) }
-        ensures set { S.facts store.new ≡ (if result then put_step (S.extent store.old) (action_literals (state_in self.entry) (items_in (effect (table_in self.entry) (next_place (ground (table_in self.entry) 513 at))))) (S.facts store.old) else S.facts store.old) }
+        ensures judged { result ≡ value_in (state_in self.now) (ground (table_in self.now) 513 at) }
+        ensures set { S.facts store.new ≡ (if result then put_step (S.extent store.old) (action_literals (state_in self.now) (items_in (effect (table_in self.now) (next_place (ground (table_in self.now) 513 at))))) (S.facts store.old) else S.facts store.old) }
     {
         let (applicable, effect) = self.judge(513, at);
         if applicable {

@@ -7,14 +7,14 @@ use Rattle.book_runs.proofs.scene.Scene.put_clause.Goals as goal
 
 pub put_literals-requires : goal.put_literals-requires
 put_literals-requires g c =
-    let t = table_in c.args.self in
-    let w = when_stands t (state_in c.args.self) c.args.at c.requires (sym c.is_kind.ensures ∙ c.if-is_kind.true) in
+    let t = table_in c.args.self.now in
+    let w = when_stands t (state_in c.args.self.now) c.args.at c.requires (sym c.is_kind.ensures ∙ c.if-is_kind.true) in
     ap (λ (x : ℕ). is_good (literals t x)) c.judge-holds.ensures.end ∙ w.follow
 
 pub returns-then-is_kind : goal.returns-then-is_kind
 returns-then-is_kind g c =
-    let t = table_in c.args.self in
-    let v = state_in c.args.self in
+    let t = table_in c.args.self.now in
+    let v = state_in c.args.self.now in
     let M = g.S.Store in
     let w = when_stands t v c.args.at c.requires (sym c.is_kind.ensures ∙ c.if-is_kind.true) in
     let p = when_puts t v c.args.at w (M.extent c.args.store.now) c.args.adds c.judge-holds.result.0 c.judge-holds.result.1 c.put_literals.result (M.facts c.args.store.now) _
