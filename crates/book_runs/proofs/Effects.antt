@@ -1,5 +1,5 @@
 -- What an action's effect at a place of a book's table is, and what puts of its literals leave.
-use Rattle.std.proofs.Common.{◌≡◌, ℕ, ◌+◌, ◌<◌, ◌≤◌, Bool, true, false, cond, eqb, List, [], ◌∷◌, get_or, sym, refl, ap, ◌∙◌, arith}
+use Rattle.std.proofs.Common.{◌≡◌, ℕ, ◌+◌, ◌-◌, ◌<◌, ◌≤◌, Bool, true, false, cond, eqb, List, [], ◌∷◌, get_or, sym, refl, ap, ◌∙◌, arith}
 use Rattle.std.proofs.lemmas.Bool.{cond-true, cond-false}
 use Rattle.table.specs.declared.places.Place.TheVariants as place
 use Rattle.table.specs.Answers.{is_good}
@@ -12,7 +12,7 @@ use Rattle.book.specs.Reads.{ground, literal_by, literal, literals, clause_by, c
 use Rattle.protocol.specs.Steps.{put_literals}
 use Rattle.protocol.proofs.Puts.{put_append}
 use Rattle.book_runs.specs.Standing.{value_in, items_in, literals_in, literal_at, literal_end}
-use Rattle.book_runs.proofs.Reading.{not_good, goes, First}
+use Rattle.book_runs.proofs.Reading.{not_good, goes, Headed, First}
 
 -- Literals.
 
@@ -40,11 +40,21 @@ literal_from t levels i false e h l =
     (c ∙ ap (good adding) (sym q) ∙ ap (λ x. good x (literal_end t i)) (sym r), omega (arith, q))
 
 -- a literal of a WHEN
-pub literal_stands : (t : Table) (i : ℕ) → is_good (literal t i) ≡ true → (literal t i ≡ good (literal_at t i) (literal_end t i)) × (literal_end t i ≤ t.entries) × (i < t.entries)
-literal_stands t i h =
-    let w = goes t place.Literal 510 i (λ e j. literal_by t 509 e j) h in
-    let x = literal_from t 509 i (eqb (get_or t.kinds i 0) 4) refl (ap is_good (sym w.1) ∙ h) w.0.inside in
-    (w.1 ∙ x.0, x.1, w.0.inside)
+module _ (t : Table) (i : ℕ) (stands : is_good (literal t i) ≡ true) where
+  goes_on : Headed t place.Literal 510 i × (literal t i ≡ literal_by t 509 (entry_at t i) (i + 1))
+  goes_on = goes t place.Literal 510 i (λ e j. literal_by t 509 e j) stands
+
+  from_there : (literal_by t 509 (entry_at t i) (i + 1) ≡ good (literal_at t i) (literal_end t i)) × (literal_end t i ≤ t.entries)
+  from_there = literal_from t 509 i (eqb (get_or t.kinds i 0) 4) refl (ap is_good (sym goes_on.1) ∙ stands) goes_on.0.inside
+
+  pub literal_begins : i < t.entries
+  literal_begins = goes_on.0.inside
+
+  pub literal_inside : literal_end t i ≤ t.entries
+  literal_inside = from_there.1
+
+  pub literal_reads : literal t i ≡ good (literal_at t i) (literal_end t i)
+  literal_reads = goes_on.1 ∙ from_there.0
 
 -- Parts of an effect.
 
@@ -80,13 +90,6 @@ when_stands t s i h e =
 
 -- Puts.
 
--- the first item is the one that is read there
-pub same_item : {A : Type 0} (read : ℕ → Out A) (m n i j : ℕ) (x : A) (k : ℕ) (f : First read m n i j) → read i ≡ good x k → items_in (many read m i) ≡ x ∷ items_in (many read n j)
-same_item read m n i j x k f e =
-    let q : good f.item j ≡ good x k = sym f.reads ∙ e in
-    let r : f.item ≡ x = cc in
-    f.items ∙ ap (λ y. y ∷ items_in (many read n j)) r
-
 -- what a WHEN puts, its condition judged in the state v
 pub when_puts : (t : Table) (v : State) (i : ℕ) (w : WhenAt t v i) (n : ℕ) (b h : Bool) (j k : ℕ) (s u : State)
     → h ≡ value_in v (ground t 511 (i + 1)) → j ≡ next_place (ground t 511 (i + 1)) → k ≡ next_place (literals t j) → u ≡ put_literals n b (cond h (items_in (literals t j)) []) s
@@ -100,22 +103,30 @@ when_puts t v i w n b h j k s u e p q r = (
 )
 
 -- a turn over the literals of a WHEN
-module _ (n : ℕ) (b : Bool) (x : Literal) (xs ls : List Literal) (is : ls ≡ x ∷ xs) (s : State) where
-  pub put_more : (m : ℕ) (u : State) (h : Bool) → h ≡ true → m ≡ n → u ≡ put_literals m b (x ∷ []) s → put_literals n b (cond h xs []) u ≡ put_literals n b (cond h ls []) s
-  put_more m u true e q r =
-      ap (put_literals n b xs) (r ∙ ap (λ (k : ℕ). put_literals k b (x ∷ []) s) q)
-      ∙ sym (put_append n b (x ∷ []) xs s)
-      ∙ ap (λ (ys : List Literal). put_literals n b ys s) (sym is)
-  put_more m u false e q r = cc
+module _ (n : ℕ) (b : Bool) (t : Table) (m i j : ℕ) (f : First (literal t) m i j) (s : State) where
+  is : items_in (many (literal t) m i) ≡ literal_at t i ∷ items_in (many (literal t) (m - 1) j)
+  is =
+      let q : good f.item j ≡ good (literal_at t i) (literal_end t i) = sym f.reads ∙ literal_reads t i (ap is_good f.reads) in
+      let r : f.item ≡ literal_at t i = cc in
+      f.items ∙ ap (λ y. y ∷ items_in (many (literal t) (m - 1) j)) r
 
-  pub put_no_more : (u : State) (h : Bool) → h ≡ false → u ≡ s → put_literals n b (cond h xs []) u ≡ put_literals n b (cond h ls []) s
+  pub put_more : (k : ℕ) (u : State) (h : Bool) → h ≡ true → k ≡ n → u ≡ put_literals k b (literal_at t i ∷ []) s
+      → put_literals n b (cond h (items_in (many (literal t) (m - 1) j)) []) u ≡ put_literals n b (cond h (items_in (many (literal t) m i)) []) s
+  put_more k u true e q r =
+      ap (put_literals n b (items_in (many (literal t) (m - 1) j))) (r ∙ ap (λ (x : ℕ). put_literals x b (literal_at t i ∷ []) s) q)
+      ∙ sym (put_append n b (literal_at t i ∷ []) (items_in (many (literal t) (m - 1) j)) s)
+      ∙ ap (λ (ys : List Literal). put_literals n b ys s) (sym is)
+  put_more k u false e q r = cc
+
+  pub put_no_more : (u : State) (h : Bool) → h ≡ false → u ≡ s → put_literals n b (cond h (items_in (many (literal t) (m - 1) j)) []) u ≡ put_literals n b (cond h (items_in (many (literal t) m i)) []) s
   put_no_more u true e r = cc
   put_no_more u false e r = r
 
 -- a turn over the parts of an effect
-pub put_part : (n m : ℕ) (b : Bool) (v : State) (o : Out Clause) (c : Clause) (j : ℕ) (xs cs : List Clause) (s u : State) → o ≡ good c j → cs ≡ c ∷ xs → m ≡ n → u ≡ put_literals m b (literals_in v o) s
-    → put_literals n b (action_literals v xs) u ≡ put_literals n b (action_literals v cs) s
-put_part n m b v o c j xs cs s u e is q r =
-    ap (put_literals n b (action_literals v xs)) (r ∙ ap (λ (k : ℕ). put_literals k b (literals_in v o) s) q ∙ ap (λ (y : Out Clause). put_literals n b (literals_in v y) s) e)
-    ∙ sym (put_append n b (clause_literals v c) (action_literals v xs) s)
-    ∙ ap (λ (ys : List Clause). put_literals n b (action_literals v ys) s) (sym is)
+pub put_part : (n k : ℕ) (b : Bool) (v : State) (t : Table) (m i j : ℕ) (f : First (clause t) m i j) (s u : State) → k ≡ n → u ≡ put_literals k b (literals_in v (clause t i)) s
+    → put_literals n b (action_literals v (items_in (many (clause t) (m - 1) j))) u ≡ put_literals n b (action_literals v (items_in (many (clause t) m i))) s
+put_part n k b v t m i j f s u q r =
+    let xs = items_in (many (clause t) (m - 1) j) in
+    ap (put_literals n b (action_literals v xs)) (r ∙ ap (λ (x : ℕ). put_literals x b (literals_in v (clause t i)) s) q ∙ ap (λ (y : Out Clause). put_literals n b (literals_in v y) s) f.reads)
+    ∙ sym (put_append n b (clause_literals v f.item) (action_literals v xs) s)
+    ∙ ap (λ (ys : List Clause). put_literals n b (action_literals v ys) s) (sym f.items)

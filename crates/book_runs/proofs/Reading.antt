@@ -1,5 +1,5 @@
 -- Readings that went well, from their first entry on.
-use Rattle.std.proofs.Common.{◌≡◌, ℕ, suc, ◌+◌, ◌<◌, Bool, true, false, ltb, List, [], ◌∷◌, get_or, sym, refl, ap, ◌∙◌, subst, arith}
+use Rattle.std.proofs.Common.{◌≡◌, ℕ, zero, suc, ◌+◌, ◌-◌, ◌<◌, Bool, true, false, ltb, List, ◌∷◌, get_or, sym, refl, ap, ◌∙◌, subst, arith}
 use Rattle.std.proofs.lemmas.Bool.{ltb-true}
 use Rattle.table.specs.declared.places.Place.{Place}
 use Rattle.table.specs.Permits.{permitted}
@@ -55,13 +55,13 @@ module _ {A B : Type 0} (f : A → B) where
   same_end (bad n p) = refl
   same_end (good a j) = refl
 
--- the first of m items, and the n others from place j on
-pub record First {A : Type 0} (read : ℕ → Out A) (m n i j : ℕ) : Type 0 where
+-- the first of m items, and the others from place j on
+pub record First {A : Type 0} (read : ℕ → Out A) (m i j : ℕ) : Type 0 where
   pub item : A
   pub reads : read i ≡ good item j
-  pub others : is_good (many read n j) ≡ true
-  pub items : items_in (many read m i) ≡ item ∷ items_in (many read n j)
-  pub ends : next_place (many read m i) ≡ next_place (many read n j)
+  pub others : is_good (many read (m - 1) j) ≡ true
+  pub items : items_in (many read m i) ≡ item ∷ items_in (many read (m - 1) j)
+  pub ends : next_place (many read (m - 1) j) ≡ next_place (many read m i)
 
 after_first : {A : Type 0} (x : A) (o : Out (List A)) → is_good (then o λ rest k. good (x ∷ rest) k) ≡ true
     → (is_good o ≡ true) × (items_in (then o λ rest k. good (x ∷ rest) k) ≡ x ∷ items_in o) × (next_place (then o λ rest k. good (x ∷ rest) k) ≡ next_place o)
@@ -72,21 +72,19 @@ first_by : {A : Type 0} (read : ℕ → Out A) (n : ℕ) (o : Out A)
     → is_good (then o λ a j. then (many read n j) λ rest k. good (a ∷ rest) k) ≡ true
     → (x : A) × (o ≡ good x (next_place o)) × (is_good (many read n (next_place o)) ≡ true)
     × (items_in (then o λ a j. then (many read n j) λ rest k. good (a ∷ rest) k) ≡ x ∷ items_in (many read n (next_place o)))
-    × (next_place (then o λ a j. then (many read n j) λ rest k. good (a ∷ rest) k) ≡ next_place (many read n (next_place o)))
+    × (next_place (many read n (next_place o)) ≡ next_place (then o λ a j. then (many read n j) λ rest k. good (a ∷ rest) k))
 first_by {A} read n (bad m p) e = not_good (List A) m p e
-first_by read n (good x j) e = let w = after_first x (many read n j) e in (x, refl, w.0, w.1, w.2)
+first_by read n (good x j) e = let w = after_first x (many read n j) e in (x, refl, w.0, w.1, sym w.2)
 
-pub first : {A : Type 0} (read : ℕ → Out A) (m n i j : ℕ) → m ≡ suc n → j ≡ next_place (read i) → is_good (many read m i) ≡ true → First read m n i j
-first read m n i j q p e =
-    let u : is_good (many read (suc n) i) ≡ true = ap (λ x. is_good (many read x i)) (sym q) ∙ e in
-    let w = first_by read n (read i) u in
-    let v : First read (suc n) n i (next_place (read i)) = record { item = w.0; reads = w.1; others = w.2; items = w.3; ends = w.4 } in
-    subst (λ x. First read x n i j) (sym q) (subst (λ x. First read (suc n) n i x) (sym p) v)
+pub first : {A : Type 0} (read : ℕ → Out A) (m i j : ℕ) → 0 < m → j ≡ next_place (read i) → is_good (many read m i) ≡ true → First read m i j
+first read zero i j l p e = absurd (omega arith)
+first {A} read (suc n) i j l p e =
+    let P : ℕ → ℕ → Type 0 = λ x k. (y : A) × (read i ≡ good y k) × (is_good (many read x k) ≡ true) × (items_in (many read (suc n) i) ≡ y ∷ items_in (many read x k)) × (next_place (many read x k) ≡ next_place (many read (suc n) i)) in
+    let q : n ≡ suc n - 1 = omega arith in
+    let w = subst (λ x. P x j) q (subst (λ k. P n k) (sym p) (first_by read n (read i) e)) in
+    record { item = w.0; reads = w.1; others = w.2; items = w.3; ends = w.4 }
 
 -- the first of m items went well
-pub first_stands : {A : Type 0} (read : ℕ → Out A) (m n i : ℕ) → m ≡ suc n → is_good (many read m i) ≡ true → is_good (read i) ≡ true
-first_stands read m n i q e = first_good (read i) (λ a j. then (many read n j) λ rest k. good (a ∷ rest) k) (ap (λ x. is_good (many read x i)) (sym q) ∙ e)
-
--- no items are left
-pub none_left : {A : Type 0} (read : ℕ → Out A) (m i : ℕ) → m ≡ 0 → (items_in (many read m i) ≡ []) × (next_place (many read m i) ≡ i)
-none_left read m i q = (ap (λ x. items_in (many read x i)) q, ap (λ x. next_place (many read x i)) q)
+pub first_stands : {A : Type 0} (read : ℕ → Out A) (m i : ℕ) → 0 < m → is_good (many read m i) ≡ true → is_good (read i) ≡ true
+first_stands read zero i l e = absurd (omega arith)
+first_stands read (suc n) i l e = first_good (read i) (λ a j. then (many read n j) λ rest k. good (a ∷ rest) k) e

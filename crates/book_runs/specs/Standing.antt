@@ -7,10 +7,13 @@ use Rattle.model.specs.Settling.{Ground, ground_value, ground_values}
 use Rattle.model.specs.Books.{Clause, clause_literals}
 use Rattle.book.specs.Tables.{Table}
 use Rattle.book.specs.Reads.{grounds_of}
+use Rattle.book_runs.specs.declared.junction.Junction as code
+use Rattle.book_runs.specs.declared.junction.Junction.TheVariants.{All, Any}
 
--- whether all are asked for, or any
-abbrev pub junction_for : Bool → Junction
-junction_for b = cond b all any
+-- what a junction of the code stands for
+abbrev pub joining : code.Junction → Junction
+joining All = all
+joining Any = any
 
 -- the value of the formula that was read
 abbrev pub value_in : State → Out Ground → Bool
@@ -23,8 +26,8 @@ items_in (bad n p) = []
 items_in (good xs j) = xs
 
 -- whether all formulas that were read are true, or any
-abbrev pub values_in : State → Bool → Out (List Ground) → Bool
-values_in s b o = ground_values s (junction_for b) (grounds_of (items_in o))
+abbrev pub values_in : State → Junction → Out (List Ground) → Bool
+values_in s j o = ground_values s j (grounds_of (items_in o))
 
 -- the literals that the clause that was read brings about
 abbrev pub literals_in : State → Out Clause → List Literal

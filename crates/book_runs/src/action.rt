@@ -8,7 +8,7 @@ ghost use Rattle.protocol.specs.Steps.{put_step};
 ghost use Rattle.book_runs.specs.Runs.{is_taken, literals_taken};
 
 use crate::names::after_objects;
-use crate::step::attempt;
+use crate::scene::Scene;
 use book::Book;
 use protocol::Name;
 use store::Store;
@@ -27,5 +27,9 @@ pub(crate) fn perform_action<S: Store>(book: &Book, image: &[u8], name: Name, st
         unreachable()
     };
     let precondition = after_objects(&book.table, at + 1);
-    attempt(&book.table, image, precondition, store)
+    let scene = Scene {
+        table: &book.table,
+        image,
+    };
+    scene.attempt(precondition, store)
 }

@@ -1,7 +1,6 @@
-// Single entries of an opened book, and what an image shows.
-ghost use Rattle.std.specs.Prelude.{◌≡◌, ℕ, ◌+◌, ◌<◌, ◌≤◌, length, ◌==◌, slice_index};
+// Single entries of an opened book.
+ghost use Rattle.std.specs.Prelude.{◌≡◌, ℕ, ◌+◌, ◌<◌, ◌==◌, slice_index};
 ghost use Rattle.table.specs.Kinds.{code_of};
-ghost use Rattle.protocol.specs.Shown.{shown};
 
 use book::BookTable;
 use table::Kind;
@@ -24,12 +23,4 @@ pub(crate) fn is_kind(table: &BookTable, at: usize, kind: Kind) -> bool
     ensures { result ≡ (slice_index table.now.kinds.now at == code_of kind) }
 {
     table.kinds[at] == u8::from(kind)
-}
-
-// Whether the image shows the fact.
-pub(crate) fn shows(image: &[u8], fact: u32) -> bool
-    requires { fact < length image.now }
-    ensures { result ≡ shown image.now fact }
-{
-    image[fact as usize] % 2 == 1
 }

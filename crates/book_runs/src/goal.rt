@@ -4,7 +4,7 @@ ghost use Rattle.model.specs.Settling.{ground_value};
 ghost use Rattle.book.specs.Held.{tree_of};
 ghost use Rattle.protocol.specs.Shown.{shown};
 
-use crate::judge::judge;
+use crate::scene::Scene;
 use book::Book;
 
 // The value of the goal in the image.
@@ -14,6 +14,10 @@ pub(crate) fn judge_goal(book: &Book, image: &[u8]) -> bool
 {
     let sizes = book.table.sizes;
     let at = sizes.relevant as usize + sizes.always as usize;
-    let (value, _) = judge(&book.table, image, 513, at);
+    let scene = Scene {
+        table: &book.table,
+        image,
+    };
+    let (value, _) = scene.judge(513, at);
     value
 }

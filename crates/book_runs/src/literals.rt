@@ -50,7 +50,7 @@ pub(crate) fn put_literals<S: Store>(
     ensures set { S.facts store.new ≡ put_literals (S.extent store.old) adds (if holds then items_in (literals (table_in table.now) at) else []) (S.facts store.old) }
 {
     let mut next = at + 1;
-    for _k in 0..table.operands[at] {
+    for _ in (0..table.operands[at]).rev() {
         if holds {
             put_literal(table, next, store, adds);
         }

@@ -11,6 +11,7 @@ use table::Kind;
 
 // The place after the formula at place `at`, where `levels` levels are left.
 #[cycle(skip_skip_all)]
+#[tactic(auto, using(crate::proofs::Standing::formulas))]
 fn skip(table: &BookTable, levels: u32, at: usize) -> usize
     requires { is_good (ground (table_in table.now) levels at) ≡ true }
     ensures { result ≡ next_place (ground (table_in table.now) levels at) }
@@ -29,7 +30,7 @@ pub(crate) fn skip_all(table: &BookTable, levels: u32, at: usize, count: u32) ->
     ensures { result ≡ next_place (many (ground (table_in table.now) levels) count at) }
 {
     let mut next = at;
-    for _k in 0..count {
+    for _ in (0..count).rev() {
         next = skip(table, levels, next);
     }
     next

@@ -3,9 +3,11 @@
 
 mod answering;
 mod calls;
+mod image;
 mod name;
 mod run;
 
 pub use calls::{Answer, Call};
+pub use image::shows;
 pub use name::Name;
 pub use run::Run;

@@ -36,7 +36,6 @@ attempt-requires g c =
     let b = c.args.book.now in
     let w = found_at b (name_of c.args.name) c.in-Some.number c.in-Some.ensures.number c.in-Some-action_at.at c.in-Some-action_at.ensures in
     record {
-      image = c.requires;
       stands = precondition_stands (held b) c.in-Some-action_at.at c.after_objects-precondition.result w.0 w.2 c.after_objects-precondition.ensures;
       effect = effect_stands (held b) c.in-Some-action_at.at c.after_objects-precondition.result w.0 w.2 c.after_objects-precondition.ensures;
     }

@@ -1,4 +1,4 @@
-use Rattle.std.proofs.Common.{◌≡◌, ◌+◌, ◌-◌, true, cond, [], get_or}
+use Rattle.std.proofs.Common.{◌≡◌, ◌+◌, true, cond, [], get_or}
 use Rattle.table.specs.Answers.{is_good}
 use Rattle.table.specs.Reading.{many, next_place}
 use Rattle.book.specs.Reads.{literal}
@@ -8,13 +8,15 @@ use Rattle.book_runs.specs.Standing.{items_in}
 use Rattle.book_runs.proofs.literals.put_literals.Given as goal
 
 -- the literals that are left end where all of them end, and puts of them leave what puts of all leave
-abbrev pub invariant-loop-k : goal.invariant-loop-k
-invariant-loop-k g l =
+abbrev pub invariant-loop : goal.invariant-loop
+invariant-loop g l =
     let m = g.S.Store in
-    let count = get_or l.table.operands.now l.at 0 in
-    let left = many (literal (table l.table)) (count - l._k) l.next in
-    let whole = many (literal (table l.table)) count (l.at + 1) in
-    (m.extent l.store ≡ m.extent l.initial.store)
-    × (is_good left ≡ true)
-    × (next_place left ≡ next_place whole)
-    × (put_literals (m.extent l.initial.store) l.adds (cond l.holds (items_in left) []) (m.facts l.store) ≡ put_literals (m.extent l.initial.store) l.adds (cond l.holds (items_in whole) []) (m.facts l.initial.store))
+    let n = m.extent l.initial.store in
+    let left = many (literal (table l.table)) l.counter l.next in
+    let whole = many (literal (table l.table)) (get_or l.table.operands.now l.at 0) (l.at + 1) in
+    record {
+      size : m.extent l.store ≡ n;
+      stand : is_good left ≡ true;
+      end : next_place left ≡ next_place whole;
+      set : put_literals n l.adds (cond l.holds (items_in left) []) (m.facts l.store) ≡ put_literals n l.adds (cond l.holds (items_in whole) []) (m.facts l.initial.store);
+    }

@@ -1,4 +1,4 @@
-use Rattle.std.proofs.Common.{◌≡◌, ◌+◌, ◌-◌, ◌*◌, true}
+use Rattle.std.proofs.Common.{◌≡◌, ◌+◌, ◌*◌, true}
 use Rattle.table.specs.Answers.{is_good}
 use Rattle.table.specs.Reading.{many, next_place}
 use Rattle.book.specs.Reads.{ground}
@@ -12,7 +12,7 @@ abbrev pub decreases-skip_all : goal.decreases-skip_all
 decreases-skip_all l = 2 * l.levels + 1
 
 -- the formulas that are left end where all of them end
-abbrev pub invariant-skip_all-loop-k : goal.invariant-skip_all-loop-k
-invariant-skip_all-loop-k l =
+abbrev pub invariant-skip_all-loop : goal.invariant-skip_all-loop
+invariant-skip_all-loop l =
     let read = ground (table l.table) l.levels in
-    (is_good (many read (l.count - l._k) l.next) ≡ true) × (next_place (many read (l.count - l._k) l.next) ≡ next_place (many read l.count l.at))
+    record { stand : is_good (many read l.counter l.next) ≡ true; end : next_place (many read l.counter l.next) ≡ next_place (many read l.count l.at) }
