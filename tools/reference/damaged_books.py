@@ -210,22 +210,33 @@ def answers():
     yield f"a short array of operands: {opened(SIZES, kinds, operands[:-2])}"
 
 
+KINDS = ("True False Atom Equal Not And Or Imply Forall Exists Object Variable When Fact TypeSet Predicate Operator Parameter "
+         "Action StartsTrue StartsFalse Always").split()
+PARTS = {0: "relevant atoms", 3: "atoms that are always true", 5: "the goal, from place 5"}
+PARTS.update({i: f"an action, from place {i}" for i, (kind, _) in enumerate(BOOK) if kind == ACTION})
+GROUPS = ("atoms", "relevant", "always", "actions", "entries")
+
+
 def cases():
-    numbers = lambda xs: ", ".join(map(str, xs))
-    print("// A small book table, and the ways in which it is damaged.\nuse book::Sizes;\n")
+    """The cases of the program, in Rattle. A damage may have a kind that does not exist: its kinds are numbers."""
+    code = lambda kind: f"Kind::{KINDS[kind]} as u8" if kind < len(KINDS) else kind
+    print("// A small book table, and the ways in which it is damaged.\nuse book::Sizes;\nuse table::Kind;")
+    print("use trials::{Damage, Resize};\n")
     print(f"pub const ENTRIES: usize = {len(BOOK)};\n")
-    print("pub const SIZES: Sizes = Sizes {{ atoms: {}, relevant: {}, always: {}, actions: {}, entries: {} }};\n".format(*SIZES))
-    print("// Three relevant atoms and two that are always true; the goal from place 5; actions from places 11, 24, 32 and 38.")
-    print(f"pub const KINDS: [u8; ENTRIES] = [{numbers(k for k, _ in BOOK)}];\n")
-    print(f"pub const OPERANDS: [u32; ENTRIES] = [{numbers(x for _, x in BOOK)}];\n")
-    print("// The entry at a place, exchanged for another.\npub struct Damage {\n    pub words: &'static str,\n    pub at: usize,\n    pub kind: u8,\n    pub operand: u32,\n}\n")
+    print("pub const SIZES: Sizes = Sizes { " + ", ".join(f"{g}: {n}" for g, n in zip(GROUPS, SIZES)) + " };\n")
+    print("pub const TABLE: [(Kind, u32); ENTRIES] = [")
+    for i, (kind, operand) in enumerate(BOOK):
+        if i in PARTS:
+            print(f"    // {PARTS[i]}")
+        print(f"    (Kind::{KINDS[kind]}, {operand}),")
+    print("];\n")
     print(f"pub const DAMAGES: [Damage; {len(DAMAGES)}] = [")
     for words, at, kind, operand in DAMAGES:
-        print(f'    Damage {{ words: "{words}", at: {at}, kind: {kind}, operand: {operand} }},')
-    print("];\n\n// The size at a position, exchanged for another.\npub struct Resize {\n    pub words: &'static str,\n    pub position: u32,\n    pub size: u32,\n}\n")
-    print(f"pub const RESIZES: [Resize; {len(RESIZES)}] = [")
+        print(f'    Damage {{ words: "{words}", at: {at}, kind: {code(kind)}, operand: {operand} }},')
+    print("];\n")
+    print(f"pub const RESIZES: [Resize<Sizes>; {len(RESIZES)}] = [")
     for words, position, size in RESIZES:
-        print(f'    Resize {{ words: "{words}", position: {position}, size: {size} }},')
+        print(f'    Resize {{ words: "{words}", sizes: Sizes {{ {GROUPS[position]}: {size}, ..SIZES }} }},')
     print("];")
 
 

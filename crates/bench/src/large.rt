@@ -1,6 +1,9 @@
 // A task with 32 objects and one predicate of three arguments: a step takes a triple and puts it back turned round.
 use adl::Sizes;
 use protocol::Name;
+use table::Kind;
+
+const ENTRIES: usize = 25;
 
 pub const SIZES: Sizes = Sizes {
     objects: 32,
@@ -11,13 +14,36 @@ pub const SIZES: Sizes = Sizes {
     entries: 25,
 };
 
-// One type with all objects, the fact (1, 2, 3), the goal FALSE, and the operator.
-pub const KINDS: [u8; 25] = [
-    14, 15, 2, 10, 10, 10, 1, 16, 17, 17, 17, 2, 11, 11, 11, 5, 4, 2, 11, 11, 11, 2, 11, 11, 11,
-];
-
-pub const OPERANDS: [u32; 25] = [
-    4294967295, 3, 0, 1, 2, 3, 0, 3, 0, 0, 0, 0, 0, 1, 2, 2, 0, 0, 0, 1, 2, 0, 1, 2, 0,
+pub const TABLE: [(Kind, u32); ENTRIES] = [
+    // a type with all objects
+    (Kind::TypeSet, 0xffff_ffff),
+    (Kind::Predicate, 3),
+    // the fact
+    (Kind::Atom, 0),
+    (Kind::Object, 1),
+    (Kind::Object, 2),
+    (Kind::Object, 3),
+    // the goal
+    (Kind::False, 0),
+    // the operator
+    (Kind::Operator, 3),
+    (Kind::Parameter, 0),
+    (Kind::Parameter, 0),
+    (Kind::Parameter, 0),
+    (Kind::Atom, 0),
+    (Kind::Variable, 0),
+    (Kind::Variable, 1),
+    (Kind::Variable, 2),
+    (Kind::And, 2),
+    (Kind::Not, 0),
+    (Kind::Atom, 0),
+    (Kind::Variable, 0),
+    (Kind::Variable, 1),
+    (Kind::Variable, 2),
+    (Kind::Atom, 0),
+    (Kind::Variable, 1),
+    (Kind::Variable, 2),
+    (Kind::Variable, 0),
 ];
 
 // The triple goes round once.

@@ -11,7 +11,7 @@ use std::rt::{Clock, Env};
 use std::time::Instant;
 use std::{env, io};
 use store::{Bits, copy};
-use table::{kinds_of, operands_of};
+use trials::Arrays;
 
 // How often the names are performed.
 const ROUNDS: u32 = 20000;
@@ -28,19 +28,27 @@ const LOCKING: [Name; 2] = [
     },
 ];
 
+// A task table and the names that are performed on it.
+#[derive(Clone, Copy)]
+struct Course<'c> {
+    words: &'c str,
+    sizes: Sizes,
+    kinds: &'c [u8],
+    operands: &'c [u32],
+    names: &'c [Name<'c>],
+}
+
 // Performs the names round after round; answers how many steps were taken.
 fn perform_all(task: &Task, store: &mut Bits, image: &mut [u8], names: &[Name]) -> u32 {
-    match TaskRun::begin(task, store) {
-        Ok(mut run) => {
-            for _ in 0..ROUNDS {
-                for name in names {
-                    let _ = run.perform(store, image, *name);
-                }
-            }
-            run.end()
+    let Ok(mut run) = TaskRun::begin(task, store) else {
+        return 0;
+    };
+    for _ in 0..ROUNDS {
+        for name in names {
+            let _ = run.perform(store, image, *name);
         }
-        Err(_) => 0,
     }
+    run.end()
 }
 
 fn copy_often(task: &Task, store: &Bits, image: &mut [u8], times: u32) {
@@ -49,55 +57,48 @@ fn copy_often(task: &Task, store: &Bits, image: &mut [u8], times: u32) {
     }
 }
 
-fn measure(
-    rt: &(impl Clock + Print),
-    words: &str,
-    task: &Task,
-    store: &mut Bits,
-    image: &mut [u8],
-    names: &[Name],
-) -> io::Result<()> {
+fn measure(rt: &(impl Clock + Print), course: &Course) -> io::Result<()> {
+    let words = course.words;
+    let mut task = Task::new();
+    if task
+        .load(course.sizes, course.kinds, course.operands)
+        .is_err()
+    {
+        return println!(rt; "{words}: the task does not load");
+    }
+    let mut bytes = [0; 8192];
+    let mut image = [0; 65536];
+    let mut store = Bits::over(&mut bytes);
     let start = Instant::now(rt)?;
-    let steps = perform_all(task, store, image, names);
+    let steps = perform_all(&task, &mut store, &mut image, course.names);
     let whole = start.elapsed(rt)?.as_micros().max(1);
     let start = Instant::now(rt)?;
-    copy_often(task, store, image, steps);
+    copy_often(&task, &store, &mut image, steps);
     let copying = start.elapsed(rt)?.as_micros().min(whole);
     let rate = u128::from(steps) * 1_000_000 / whole;
     let share = copying.saturating_mul(100) / whole;
     println!(rt; "{words}: {rate} steps per second, copying takes {share} of 100 parts")
 }
 
-fn load_and_measure<'a>(
-    rt: &(impl Clock + Print),
-    words: &str,
-    sizes: Sizes,
-    kinds: &'a [u8],
-    operands: &'a [u32],
-    names: &[Name],
-) -> io::Result<()> {
-    let mut task = Task::new();
-    if task.load(sizes, kinds, operands).is_err() {
-        return println!(rt; "{words}: the task does not load");
-    }
-    let mut bytes = [0; 8192];
-    let mut image = [0; 65536];
-    let mut store = Bits::over(&mut bytes);
-    measure(rt, words, &task, &mut store, &mut image, names)
-}
-
 fn measure_both(rt: &(impl Clock + Print)) -> io::Result<()> {
-    let kinds = kinds_of(&TABLE);
-    let operands = operands_of(&TABLE);
-    load_and_measure(rt, "the scenario", SIZES, &kinds, &operands, &LOCKING)?;
-    load_and_measure(
-        rt,
-        "32 objects and 32,768 atoms",
-        large::SIZES,
-        &large::KINDS,
-        &large::OPERANDS,
-        &large::TURNING,
-    )
+    let scenario = Arrays::of(&TABLE);
+    let large = Arrays::of(&large::TABLE);
+    let locking = Course {
+        words: "the scenario",
+        sizes: SIZES,
+        kinds: &scenario.kinds,
+        operands: &scenario.operands,
+        names: &LOCKING,
+    };
+    let turning = Course {
+        words: "32 objects and 32,768 atoms",
+        sizes: large::SIZES,
+        kinds: &large.kinds,
+        operands: &large.operands,
+        names: &large::TURNING,
+    };
+    measure(rt, &locking)?;
+    measure(rt, &turning)
 }
 
 fn main(rt: HostRuntime) -> io::Result<()> {

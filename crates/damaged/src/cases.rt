@@ -1,5 +1,7 @@
 // A small task table, and the ways in which it is damaged.
 use adl::Sizes;
+use table::Kind;
+use trials::{Damage, Resize};
 
 pub const ENTRIES: usize = 46;
 
@@ -12,102 +14,138 @@ pub const SIZES: Sizes = Sizes {
     entries: 46,
 };
 
-// Two types, three predicates, two facts; the goal from place 10; an operator from place 23, with its effect from place 29.
-pub const KINDS: [u8; ENTRIES] = [
-    14, 14, 15, 15, 15, 2, 10, 2, 10, 10, 5, 8, 7, 2, 11, 9, 2, 11, 11, 4, 3, 10, 10, 16, 17, 17,
-    6, 0, 2, 5, 2, 11, 4, 2, 11, 11, 8, 12, 2, 11, 11, 5, 2, 4, 2, 11,
+pub const TABLE: [(Kind, u32); ENTRIES] = [
+    // two types
+    (Kind::TypeSet, 3),
+    (Kind::TypeSet, 0),
+    // three predicates
+    (Kind::Predicate, 1),
+    (Kind::Predicate, 2),
+    (Kind::Predicate, 0),
+    // two facts
+    (Kind::Atom, 0),
+    (Kind::Object, 0),
+    (Kind::Atom, 1),
+    (Kind::Object, 0),
+    (Kind::Object, 2),
+    // the goal, from place 10
+    (Kind::And, 2),
+    (Kind::Forall, 0),
+    (Kind::Imply, 0),
+    (Kind::Atom, 0),
+    (Kind::Variable, 0),
+    (Kind::Exists, 1),
+    (Kind::Atom, 1),
+    (Kind::Variable, 0),
+    (Kind::Variable, 1),
+    (Kind::Not, 0),
+    (Kind::Equal, 0),
+    (Kind::Object, 1),
+    (Kind::Object, 2),
+    // an operator, from place 23
+    (Kind::Operator, 2),
+    (Kind::Parameter, 0),
+    (Kind::Parameter, 0),
+    (Kind::Or, 2),
+    (Kind::True, 0),
+    (Kind::Atom, 2),
+    // its effect, from place 29
+    (Kind::And, 3),
+    (Kind::Atom, 0),
+    (Kind::Variable, 0),
+    (Kind::Not, 0),
+    (Kind::Atom, 1),
+    (Kind::Variable, 0),
+    (Kind::Variable, 1),
+    (Kind::Forall, 0),
+    (Kind::When, 0),
+    (Kind::Atom, 1),
+    (Kind::Variable, 0),
+    (Kind::Variable, 2),
+    (Kind::And, 2),
+    (Kind::Atom, 2),
+    (Kind::Not, 0),
+    (Kind::Atom, 0),
+    (Kind::Variable, 2),
 ];
-
-pub const OPERANDS: [u32; ENTRIES] = [
-    3, 0, 1, 2, 0, 0, 0, 1, 0, 2, 2, 0, 0, 0, 0, 1, 1, 0, 1, 0, 0, 1, 2, 2, 0, 0, 2, 0, 2, 3, 0, 0,
-    0, 1, 0, 1, 0, 0, 1, 0, 2, 2, 2, 0, 0, 2,
-];
-
-// One entry is replaced.
-pub struct Damage {
-    pub words: &'static str,
-    pub at: usize,
-    pub kind: u8,
-    pub operand: u32,
-}
 
 pub const DAMAGES: [Damage; 39] = [
     Damage {
         words: "nothing",
         at: 0,
-        kind: 14,
+        kind: Kind::TypeSet as u8,
         operand: 3,
     },
     Damage {
         words: "a type with a bit for no object",
         at: 0,
-        kind: 14,
+        kind: Kind::TypeSet as u8,
         operand: 8,
     },
     Damage {
         words: "a type with a bit beyond 32 bits of objects",
         at: 1,
-        kind: 14,
+        kind: Kind::TypeSet as u8,
         operand: 4294967295,
     },
     Damage {
         words: "a predicate where a type should stand",
         at: 1,
-        kind: 15,
+        kind: Kind::Predicate as u8,
         operand: 0,
     },
     Damage {
         words: "a predicate of arity 4",
         at: 2,
-        kind: 15,
+        kind: Kind::Predicate as u8,
         operand: 4,
     },
     Damage {
         words: "a type where a predicate should stand",
         at: 2,
-        kind: 14,
+        kind: Kind::TypeSet as u8,
         operand: 1,
     },
     Damage {
         words: "a predicate of arity 0 with an argument in its fact",
         at: 2,
-        kind: 15,
+        kind: Kind::Predicate as u8,
         operand: 0,
     },
     Damage {
         words: "a predicate of arity 3 with two arguments in its fact",
         at: 3,
-        kind: 15,
+        kind: Kind::Predicate as u8,
         operand: 3,
     },
     Damage {
         words: "a fact of no predicate",
         at: 5,
-        kind: 2,
+        kind: Kind::Atom as u8,
         operand: 3,
     },
     Damage {
         words: "a fact that is TRUE",
         at: 5,
-        kind: 0,
+        kind: Kind::True as u8,
         operand: 0,
     },
     Damage {
         words: "a fact of an object that is not there",
         at: 6,
-        kind: 10,
+        kind: Kind::Object as u8,
         operand: 3,
     },
     Damage {
         words: "a variable in a fact",
         at: 6,
-        kind: 11,
+        kind: Kind::Variable as u8,
         operand: 0,
     },
     Damage {
         words: "an action as the goal",
         at: 10,
-        kind: 18,
+        kind: Kind::Action as u8,
         operand: 0,
     },
     Damage {
@@ -125,225 +163,237 @@ pub const DAMAGES: [Damage; 39] = [
     Damage {
         words: "a goal with one part too many",
         at: 10,
-        kind: 5,
+        kind: Kind::And as u8,
         operand: 3,
     },
     Damage {
         words: "a goal with one part too few",
         at: 10,
-        kind: 5,
+        kind: Kind::And as u8,
         operand: 1,
     },
     Damage {
         words: "a quantifier over no type",
         at: 11,
-        kind: 8,
+        kind: Kind::Forall as u8,
         operand: 2,
     },
     Damage {
         words: "IMPLY with an operand",
         at: 12,
-        kind: 7,
+        kind: Kind::Imply as u8,
         operand: 1,
     },
     Damage {
         words: "a variable that is not yet known",
         at: 14,
-        kind: 11,
+        kind: Kind::Variable as u8,
         operand: 1,
     },
     Damage {
         words: "a WHEN in a formula",
         at: 15,
-        kind: 12,
+        kind: Kind::When as u8,
         operand: 0,
     },
     Damage {
         words: "the inner variable used outside",
         at: 17,
-        kind: 11,
+        kind: Kind::Variable as u8,
         operand: 2,
     },
     Damage {
         words: "a formula where a term should stand",
         at: 18,
-        kind: 0,
+        kind: Kind::True as u8,
         operand: 0,
     },
     Damage {
         words: "NOT with an operand",
         at: 19,
-        kind: 4,
+        kind: Kind::Not as u8,
         operand: 7,
     },
     Damage {
         words: "EQUAL of an object that is not there",
         at: 22,
-        kind: 10,
+        kind: Kind::Object as u8,
         operand: 3,
     },
     Damage {
         words: "an operator with five parameters",
         at: 23,
-        kind: 16,
+        kind: Kind::Operator as u8,
         operand: 5,
     },
     Damage {
         words: "an operator with one parameter, and two",
         at: 23,
-        kind: 16,
+        kind: Kind::Operator as u8,
         operand: 1,
     },
     Damage {
         words: "a parameter of no type",
         at: 25,
-        kind: 17,
+        kind: Kind::Parameter as u8,
         operand: 2,
     },
     Damage {
         words: "a fact of a book in a precondition",
         at: 27,
-        kind: 13,
+        kind: Kind::Fact as u8,
         operand: 0,
     },
     Damage {
         words: "an effect that is an OR",
         at: 29,
-        kind: 6,
+        kind: Kind::Or as u8,
         operand: 3,
     },
     Damage {
         words: "an effect that is a truth",
         at: 30,
-        kind: 0,
+        kind: Kind::True as u8,
         operand: 0,
     },
     Damage {
         words: "an effect that is an EXISTS",
         at: 36,
-        kind: 9,
+        kind: Kind::Exists as u8,
         operand: 0,
     },
     Damage {
         words: "NOT NOT in an effect",
         at: 33,
-        kind: 4,
+        kind: Kind::Not as u8,
         operand: 0,
     },
     Damage {
         words: "a FORALL in a consequent",
         at: 41,
-        kind: 8,
+        kind: Kind::Forall as u8,
         operand: 0,
     },
     Damage {
         words: "a WHEN in a consequent",
         at: 41,
-        kind: 12,
+        kind: Kind::When as u8,
         operand: 0,
     },
     Damage {
         words: "an AND after NOT in a consequent",
         at: 44,
-        kind: 5,
+        kind: Kind::And as u8,
         operand: 0,
     },
     Damage {
         words: "the last variable one too far",
         at: 45,
-        kind: 11,
+        kind: Kind::Variable as u8,
         operand: 3,
     },
     Damage {
         words: "a consequent with one part too many",
         at: 41,
-        kind: 5,
+        kind: Kind::And as u8,
         operand: 3,
     },
     Damage {
         words: "an effect with no operand for its FORALL's type",
         at: 36,
-        kind: 8,
+        kind: Kind::Forall as u8,
         operand: 9,
     },
 ];
 
-// One size is replaced, by its position.
-pub struct Resize {
-    pub words: &'static str,
-    pub position: usize,
-    pub size: u32,
-}
-
-pub const RESIZES: [Resize; 14] = [
+pub const RESIZES: [Resize<Sizes>; 14] = [
     Resize {
         words: "no objects",
-        position: 0,
-        size: 0,
+        sizes: Sizes {
+            objects: 0,
+            ..SIZES
+        },
     },
     Resize {
         words: "33 objects",
-        position: 0,
-        size: 33,
+        sizes: Sizes {
+            objects: 33,
+            ..SIZES
+        },
     },
     Resize {
         words: "33 types",
-        position: 1,
-        size: 33,
+        sizes: Sizes { types: 33, ..SIZES },
     },
     Resize {
         words: "33 predicates",
-        position: 2,
-        size: 33,
+        sizes: Sizes {
+            predicates: 33,
+            ..SIZES
+        },
     },
     Resize {
         words: "4097 facts",
-        position: 3,
-        size: 4097,
+        sizes: Sizes {
+            facts: 4097,
+            ..SIZES
+        },
     },
     Resize {
         words: "33 operators",
-        position: 4,
-        size: 33,
+        sizes: Sizes {
+            operators: 33,
+            ..SIZES
+        },
     },
     Resize {
         words: "no entries",
-        position: 5,
-        size: 0,
+        sizes: Sizes {
+            entries: 0,
+            ..SIZES
+        },
     },
     Resize {
         words: "16385 entries",
-        position: 5,
-        size: 16385,
+        sizes: Sizes {
+            entries: 16385,
+            ..SIZES
+        },
     },
     Resize {
         words: "one entry fewer",
-        position: 5,
-        size: 45,
+        sizes: Sizes {
+            entries: 45,
+            ..SIZES
+        },
     },
     Resize {
         words: "one entry more",
-        position: 5,
-        size: 47,
+        sizes: Sizes {
+            entries: 47,
+            ..SIZES
+        },
     },
     Resize {
         words: "one type more",
-        position: 1,
-        size: 3,
+        sizes: Sizes { types: 3, ..SIZES },
     },
     Resize {
         words: "one fact more",
-        position: 3,
-        size: 3,
+        sizes: Sizes { facts: 3, ..SIZES },
     },
     Resize {
         words: "one operator more",
-        position: 4,
-        size: 2,
+        sizes: Sizes {
+            operators: 2,
+            ..SIZES
+        },
     },
     Resize {
         words: "one operator fewer",
-        position: 4,
-        size: 0,
+        sizes: Sizes {
+            operators: 0,
+            ..SIZES
+        },
     },
 ];

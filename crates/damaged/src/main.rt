@@ -4,52 +4,28 @@
 mod cases;
 
 use adl::{Sizes, Task};
-use cases::{DAMAGES, Damage, ENTRIES, KINDS, OPERANDS, RESIZES, Resize, SIZES};
+use cases::{DAMAGES, ENTRIES, RESIZES, SIZES, TABLE};
 use fault::Fault;
 use std::io;
+use trials::{Arrays, Told};
 
 // What loading answers.
-fn load<'a>(sizes: Sizes, kinds: &'a [u8], operands: &'a [u32]) -> Result<(), Fault> {
+fn load(sizes: Sizes, arrays: &Arrays<ENTRIES>) -> Result<(), Fault> {
     let mut task = Task::new();
-    task.load(sizes, kinds, operands)
+    task.load(sizes, &arrays.kinds, &arrays.operands)
 }
 
 fn tell(rt: &impl Print, words: &str, answer: Result<(), Fault>) -> io::Result<()> {
-    match answer {
-        Ok(()) => println!(rt; "{words}: loads"),
-        Err(fault) => println!(rt; "{words}: {fault}"),
-    }
-}
-
-fn with_damage(damage: &Damage) -> Result<(), Fault> {
-    let mut kinds = KINDS;
-    let mut operands = OPERANDS;
-    if damage.at < ENTRIES {
-        kinds[damage.at] = damage.kind;
-        operands[damage.at] = damage.operand;
-    }
-    load(SIZES, &kinds, &operands)
-}
-
-fn with_size(resize: &Resize) -> Result<(), Fault> {
-    let mut sizes = SIZES;
-    match resize.position {
-        0 => sizes.objects = resize.size,
-        1 => sizes.types = resize.size,
-        2 => sizes.predicates = resize.size,
-        3 => sizes.facts = resize.size,
-        4 => sizes.operators = resize.size,
-        _ => sizes.entries = resize.size,
-    }
-    load(sizes, &KINDS, &OPERANDS)
+    println!(rt; "{words}: {}", Told(answer.map(|()| "loads")))
 }
 
 fn main(rt: HostRuntime) -> io::Result<()> {
+    let arrays = Arrays::of(&TABLE);
     for damage in &DAMAGES {
-        tell(&rt, damage.words, with_damage(damage))?;
+        tell(&rt, damage.words, load(SIZES, &arrays.damaged(damage)))?;
     }
     for resize in &RESIZES {
-        tell(&rt, resize.words, with_size(resize))?;
+        tell(&rt, resize.words, load(resize.sizes, &arrays))?;
     }
     Ok(())
 }

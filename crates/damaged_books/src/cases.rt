@@ -1,5 +1,7 @@
 // A small book table, and the ways in which it is damaged.
 use book::Sizes;
+use table::Kind;
+use trials::{Damage, Resize};
 
 pub const ENTRIES: usize = 50;
 
@@ -11,120 +13,161 @@ pub const SIZES: Sizes = Sizes {
     entries: 50,
 };
 
-// Three relevant atoms and two that are always true; the goal from place 5; actions from places 11, 24, 32 and 38.
-pub const KINDS: [u8; ENTRIES] = [
-    19, 20, 19, 21, 21, 5, 13, 4, 6, 13, 1, 18, 10, 10, 0, 5, 13, 4, 13, 12, 13, 5, 4, 13, 18, 10,
-    10, 10, 10, 4, 13, 5, 18, 10, 10, 13, 5, 13, 18, 6, 13, 13, 5, 12, 5, 5, 13, 4, 13, 13,
+pub const TABLE: [(Kind, u32); ENTRIES] = [
+    // relevant atoms
+    (Kind::StartsTrue, 1),
+    (Kind::StartsFalse, 3),
+    (Kind::StartsTrue, 5),
+    // atoms that are always true
+    (Kind::Always, 2),
+    (Kind::Always, 6),
+    // the goal, from place 5
+    (Kind::And, 2),
+    (Kind::Fact, 0),
+    (Kind::Not, 0),
+    (Kind::Or, 2),
+    (Kind::Fact, 1),
+    (Kind::False, 0),
+    // an action, from place 11
+    (Kind::Action, 0),
+    (Kind::Object, 0),
+    (Kind::Object, 1),
+    (Kind::True, 0),
+    (Kind::And, 3),
+    (Kind::Fact, 0),
+    (Kind::Not, 0),
+    (Kind::Fact, 1),
+    (Kind::When, 0),
+    (Kind::Fact, 2),
+    (Kind::And, 1),
+    (Kind::Not, 0),
+    (Kind::Fact, 2),
+    // an action, from place 24
+    (Kind::Action, 0),
+    (Kind::Object, 0),
+    (Kind::Object, 1),
+    (Kind::Object, 2),
+    (Kind::Object, 3),
+    (Kind::Not, 0),
+    (Kind::Fact, 0),
+    (Kind::And, 0),
+    // an action, from place 32
+    (Kind::Action, 0),
+    (Kind::Object, 0),
+    (Kind::Object, 2),
+    (Kind::Fact, 2),
+    (Kind::And, 1),
+    (Kind::Fact, 1),
+    // an action, from place 38
+    (Kind::Action, 31),
+    (Kind::Or, 2),
+    (Kind::Fact, 0),
+    (Kind::Fact, 1),
+    (Kind::And, 2),
+    (Kind::When, 0),
+    (Kind::And, 0),
+    (Kind::And, 2),
+    (Kind::Fact, 0),
+    (Kind::Not, 0),
+    (Kind::Fact, 1),
+    (Kind::Fact, 2),
 ];
-
-pub const OPERANDS: [u32; ENTRIES] = [
-    1, 3, 5, 2, 6, 2, 0, 0, 2, 1, 0, 0, 0, 1, 0, 3, 0, 0, 1, 0, 2, 1, 0, 2, 0, 0, 1, 2, 3, 0, 0, 0,
-    0, 0, 2, 2, 1, 1, 31, 2, 0, 1, 2, 0, 0, 2, 0, 0, 1, 2,
-];
-
-// The entry at a place, exchanged for another.
-pub struct Damage {
-    pub words: &'static str,
-    pub at: usize,
-    pub kind: u8,
-    pub operand: u32,
-}
 
 pub const DAMAGES: [Damage; 46] = [
     Damage {
         words: "nothing",
         at: 0,
-        kind: 19,
+        kind: Kind::StartsTrue as u8,
         operand: 1,
     },
     Damage {
         words: "an atom that is not there",
         at: 2,
-        kind: 20,
+        kind: Kind::StartsFalse as u8,
         operand: 8,
     },
     Damage {
         words: "a relevant atom that comes again",
         at: 1,
-        kind: 20,
+        kind: Kind::StartsFalse as u8,
         operand: 1,
     },
     Damage {
         words: "relevant atoms that do not rise",
         at: 2,
-        kind: 19,
+        kind: Kind::StartsTrue as u8,
         operand: 2,
     },
     Damage {
         words: "an always true atom among the relevant",
         at: 1,
-        kind: 21,
+        kind: Kind::Always as u8,
         operand: 3,
     },
     Damage {
         words: "a relevant atom among the always true",
         at: 4,
-        kind: 19,
+        kind: Kind::StartsTrue as u8,
         operand: 6,
     },
     Damage {
         words: "an always true atom that comes again",
         at: 4,
-        kind: 21,
+        kind: Kind::Always as u8,
         operand: 2,
     },
     Damage {
         words: "an always true atom that is not there",
         at: 4,
-        kind: 21,
+        kind: Kind::Always as u8,
         operand: 8,
     },
     Damage {
         words: "an always true atom that is relevant too",
         at: 4,
-        kind: 21,
+        kind: Kind::Always as u8,
         operand: 5,
     },
     Damage {
         words: "the first always true atom is relevant too",
         at: 3,
-        kind: 21,
+        kind: Kind::Always as u8,
         operand: 1,
     },
     Damage {
         words: "a goal with one part too many",
         at: 5,
-        kind: 5,
+        kind: Kind::And as u8,
         operand: 3,
     },
     Damage {
         words: "a goal with one part too few",
         at: 5,
-        kind: 5,
+        kind: Kind::And as u8,
         operand: 1,
     },
     Damage {
         words: "a goal with very many parts",
         at: 5,
-        kind: 5,
+        kind: Kind::And as u8,
         operand: 4294967295,
     },
     Damage {
         words: "a goal that is a WHEN",
         at: 5,
-        kind: 12,
+        kind: Kind::When as u8,
         operand: 0,
     },
     Damage {
         words: "a goal that is an atom",
         at: 5,
-        kind: 2,
+        kind: Kind::Atom as u8,
         operand: 0,
     },
     Damage {
         words: "a goal with a quantifier",
         at: 6,
-        kind: 8,
+        kind: Kind::Forall as u8,
         operand: 0,
     },
     Damage {
@@ -142,264 +185,279 @@ pub const DAMAGES: [Damage; 46] = [
     Damage {
         words: "a fact that is not there",
         at: 6,
-        kind: 13,
+        kind: Kind::Fact as u8,
         operand: 3,
     },
     Damage {
         words: "NOT with an operand",
         at: 7,
-        kind: 4,
+        kind: Kind::Not as u8,
         operand: 1,
     },
     Damage {
         words: "FALSE with an operand",
         at: 10,
-        kind: 1,
+        kind: Kind::False as u8,
         operand: 1,
     },
     Damage {
         words: "a formula where an action should stand",
         at: 11,
-        kind: 0,
+        kind: Kind::True as u8,
         operand: 0,
     },
     Damage {
         words: "an action of no operator",
         at: 38,
-        kind: 18,
+        kind: Kind::Action as u8,
         operand: 32,
     },
     Damage {
         words: "an object beyond the last",
         at: 13,
-        kind: 10,
+        kind: Kind::Object as u8,
         operand: 32,
     },
     Damage {
         words: "an action without its precondition",
         at: 14,
-        kind: 5,
+        kind: Kind::And as u8,
         operand: 3,
     },
     Damage {
         words: "an effect that is a fact",
         at: 15,
-        kind: 13,
+        kind: Kind::Fact as u8,
         operand: 0,
     },
     Damage {
         words: "an effect that is an OR",
         at: 15,
-        kind: 6,
+        kind: Kind::Or as u8,
         operand: 3,
     },
     Damage {
         words: "a part of an effect that is TRUE",
         at: 16,
-        kind: 0,
+        kind: Kind::True as u8,
         operand: 0,
     },
     Damage {
         words: "an AND in an effect",
         at: 16,
-        kind: 5,
+        kind: Kind::And as u8,
         operand: 0,
     },
     Damage {
         words: "an effect on a fact that is not there",
         at: 16,
-        kind: 13,
+        kind: Kind::Fact as u8,
         operand: 3,
     },
     Damage {
         words: "NOT NOT in an effect",
         at: 18,
-        kind: 4,
+        kind: Kind::Not as u8,
         operand: 0,
     },
     Damage {
         words: "a WHEN with an operand",
         at: 19,
-        kind: 12,
+        kind: Kind::When as u8,
         operand: 1,
     },
     Damage {
         words: "a WHEN with no literals",
         at: 21,
-        kind: 5,
+        kind: Kind::And as u8,
         operand: 0,
     },
     Damage {
         words: "a WHEN with an OR of literals",
         at: 21,
-        kind: 6,
+        kind: Kind::Or as u8,
         operand: 1,
     },
     Damage {
         words: "a WHEN with one literal too many",
         at: 21,
-        kind: 5,
+        kind: Kind::And as u8,
         operand: 2,
     },
     Damage {
         words: "a WHEN inside a WHEN",
         at: 22,
-        kind: 12,
+        kind: Kind::When as u8,
         operand: 0,
     },
     Damage {
         words: "a literal that is FALSE",
         at: 22,
-        kind: 1,
+        kind: Kind::False as u8,
         operand: 0,
     },
     Damage {
         words: "a literal on a fact that is not there",
         at: 23,
-        kind: 13,
+        kind: Kind::Fact as u8,
         operand: 7,
     },
     Damage {
         words: "a name that is a fifth object longer",
         at: 29,
-        kind: 10,
+        kind: Kind::Object as u8,
         operand: 4,
     },
     Damage {
         words: "a name that comes before the one before it",
         at: 26,
-        kind: 10,
+        kind: Kind::Object as u8,
         operand: 0,
     },
     Damage {
         words: "a name whose last object comes too early",
         at: 34,
-        kind: 10,
+        kind: Kind::Object as u8,
         operand: 0,
     },
     Damage {
         words: "a name that begins the one before it",
         at: 34,
-        kind: 10,
+        kind: Kind::Object as u8,
         operand: 1,
     },
     Damage {
         words: "a name that is the one before it",
         at: 27,
-        kind: 0,
+        kind: Kind::True as u8,
         operand: 0,
     },
     Damage {
         words: "an operator that comes before the one before it",
         at: 11,
-        kind: 18,
+        kind: Kind::Action as u8,
         operand: 1,
     },
     Damage {
         words: "a type",
         at: 38,
-        kind: 14,
+        kind: Kind::TypeSet as u8,
         operand: 0,
     },
     Damage {
         words: "a last entry that is no literal",
         at: 49,
-        kind: 10,
+        kind: Kind::Object as u8,
         operand: 0,
     },
 ];
 
-// The size at a position, exchanged for another.
-pub struct Resize {
-    pub words: &'static str,
-    pub position: u32,
-    pub size: u32,
-}
-
-pub const RESIZES: [Resize; 17] = [
+pub const RESIZES: [Resize<Sizes>; 17] = [
     Resize {
         words: "65537 atoms",
-        position: 0,
-        size: 65537,
+        sizes: Sizes {
+            atoms: 65537,
+            ..SIZES
+        },
     },
     Resize {
         words: "fewer atoms than are listed",
-        position: 0,
-        size: 4,
+        sizes: Sizes { atoms: 4, ..SIZES },
     },
     Resize {
         words: "as many atoms as the highest that is listed",
-        position: 0,
-        size: 6,
+        sizes: Sizes { atoms: 6, ..SIZES },
     },
     Resize {
         words: "one relevant atom more",
-        position: 1,
-        size: 4,
+        sizes: Sizes {
+            relevant: 4,
+            ..SIZES
+        },
     },
     Resize {
         words: "one relevant atom fewer",
-        position: 1,
-        size: 2,
+        sizes: Sizes {
+            relevant: 2,
+            ..SIZES
+        },
     },
     Resize {
         words: "more relevant atoms than atoms",
-        position: 1,
-        size: 9,
+        sizes: Sizes {
+            relevant: 9,
+            ..SIZES
+        },
     },
     Resize {
         words: "relevant atoms past all bounds",
-        position: 1,
-        size: 4294967295,
+        sizes: Sizes {
+            relevant: 4294967295,
+            ..SIZES
+        },
     },
     Resize {
         words: "one always true atom more",
-        position: 2,
-        size: 3,
+        sizes: Sizes { always: 3, ..SIZES },
     },
     Resize {
         words: "no always true atoms",
-        position: 2,
-        size: 0,
+        sizes: Sizes { always: 0, ..SIZES },
     },
     Resize {
         words: "1048577 actions",
-        position: 3,
-        size: 1048577,
+        sizes: Sizes {
+            actions: 1048577,
+            ..SIZES
+        },
     },
     Resize {
         words: "one action more",
-        position: 3,
-        size: 5,
+        sizes: Sizes {
+            actions: 5,
+            ..SIZES
+        },
     },
     Resize {
         words: "one action fewer",
-        position: 3,
-        size: 3,
+        sizes: Sizes {
+            actions: 3,
+            ..SIZES
+        },
     },
     Resize {
         words: "no actions",
-        position: 3,
-        size: 0,
+        sizes: Sizes {
+            actions: 0,
+            ..SIZES
+        },
     },
     Resize {
         words: "no entries",
-        position: 4,
-        size: 0,
+        sizes: Sizes {
+            entries: 0,
+            ..SIZES
+        },
     },
     Resize {
         words: "1048577 entries",
-        position: 4,
-        size: 1048577,
+        sizes: Sizes {
+            entries: 1048577,
+            ..SIZES
+        },
     },
     Resize {
         words: "one entry fewer",
-        position: 4,
-        size: 49,
+        sizes: Sizes {
+            entries: 49,
+            ..SIZES
+        },
     },
     Resize {
         words: "one entry more",
-        position: 4,
-        size: 51,
+        sizes: Sizes {
+            entries: 51,
+            ..SIZES
+        },
     },
 ];

@@ -4,9 +4,10 @@
 mod cases;
 
 use book::{Book, Sizes};
-use cases::{DAMAGES, Damage, ENTRIES, KINDS, OPERANDS, RESIZES, Resize, SIZES};
+use cases::{DAMAGES, ENTRIES, RESIZES, SIZES, TABLE};
 use fault::Fault;
 use std::io;
+use trials::{Arrays, Told};
 
 // What opening answers.
 fn open<'a>(sizes: Sizes, kinds: &'a [u8], operands: &'a [u32]) -> Result<(), Fault> {
@@ -15,51 +16,28 @@ fn open<'a>(sizes: Sizes, kinds: &'a [u8], operands: &'a [u32]) -> Result<(), Fa
 }
 
 fn tell(rt: &impl Print, words: &str, answer: Result<(), Fault>) -> io::Result<()> {
-    match answer {
-        Ok(()) => println!(rt; "{words}: opens"),
-        Err(fault) => println!(rt; "{words}: {fault}"),
-    }
+    println!(rt; "{words}: {}", Told(answer.map(|()| "opens")))
 }
 
-fn with_damage(damage: &Damage) -> Result<(), Fault> {
-    let mut kinds = KINDS;
-    let mut operands = OPERANDS;
-    if damage.at < ENTRIES {
-        kinds[damage.at] = damage.kind;
-        operands[damage.at] = damage.operand;
-    }
-    open(SIZES, &kinds, &operands)
-}
-
-fn with_size(resize: &Resize) -> Result<(), Fault> {
-    let mut sizes = SIZES;
-    match resize.position {
-        0 => sizes.atoms = resize.size,
-        1 => sizes.relevant = resize.size,
-        2 => sizes.always = resize.size,
-        3 => sizes.actions = resize.size,
-        _ => sizes.entries = resize.size,
-    }
-    open(sizes, &KINDS, &OPERANDS)
+fn tell_short(rt: &impl Print, arrays: &Arrays<ENTRIES>) -> io::Result<()> {
+    let kinds = &arrays.kinds[..];
+    let operands = &arrays.operands[..];
+    let short = open(SIZES, &kinds[..kinds.len() - 1], operands);
+    tell(rt, "a short array of kinds", short)?;
+    let short = open(SIZES, kinds, &operands[..operands.len() - 2]);
+    tell(rt, "a short array of operands", short)
 }
 
 fn main(rt: HostRuntime) -> io::Result<()> {
+    let arrays = Arrays::of(&TABLE);
     for damage in &DAMAGES {
-        tell(&rt, damage.words, with_damage(damage))?;
+        let damaged = arrays.damaged(damage);
+        let answer = open(SIZES, &damaged.kinds, &damaged.operands);
+        tell(&rt, damage.words, answer)?;
     }
     for resize in &RESIZES {
-        tell(&rt, resize.words, with_size(resize))?;
+        let answer = open(resize.sizes, &arrays.kinds, &arrays.operands);
+        tell(&rt, resize.words, answer)?;
     }
-    let short = ENTRIES - 1;
-    tell(
-        &rt,
-        "a short array of kinds",
-        open(SIZES, &KINDS[0..short], &OPERANDS),
-    )?;
-    let shorter = ENTRIES - 2;
-    tell(
-        &rt,
-        "a short array of operands",
-        open(SIZES, &KINDS, &OPERANDS[0..shorter]),
-    )
+    tell_short(&rt, &arrays)
 }

@@ -1,13 +1,28 @@
-use adl::{Sizes, Task};
-use store::{Bits, ListStore, Store};
+ghost use Rattle.std.specs.Prelude.{◌≤◌};
 
-// What loading answers: the number of the refusal and its place, or two zeros.
-fn answer<'a>(sizes: Sizes, kinds: &'a [u8], operands: &'a [u32]) -> (u8, u64) {
+use adl::{Sizes, Task};
+use fault::{Cause, Fault, Layer};
+use std::array;
+use store::{Bits, ListStore, Store};
+use table::Kind;
+use trials::Arrays;
+
+// What loading arrays answers.
+fn load<'a>(sizes: Sizes, kinds: &'a [u8], operands: &'a [u32]) -> Result<(), Fault> {
     let mut task = Task::new();
-    match task.load(sizes, kinds, operands) {
-        Ok(()) => (0, 0),
-        Err(fault) => (u8::from(fault.cause), fault.place),
-    }
+    task.load(sizes, kinds, operands)
+}
+
+// What loading a table answers; its arrays have to fit in memory.
+fn answer<const N: usize>(sizes: Sizes, table: &[(Kind, u32); N]) -> Result<(), Fault>
+    requires { N ≤ 257 }
+{
+    let arrays = Arrays::of(table);
+    load(sizes, &arrays.kinds, &arrays.operands)
+}
+
+fn refused(cause: Cause, place: u64) -> Result<(), Fault> {
+    Err(Fault::new(cause, Layer::Task, place))
 }
 
 // Sizes of a task with one entry and so many objects.
@@ -48,64 +63,63 @@ const PUTS: [(u32, bool); 18] = [
 ];
 
 // What a store holds after the puts, and how many of them it refused.
-fn driven<S: Store>(store: &mut S) -> ([bool; FACTS], u32) {
-    let mut refused = 0u32;
-    for (k, present) in PUTS {
-        if store.put(k, present).is_err() {
-            refused = refused.saturating_add(1);
-        }
-    }
-    let mut held = [false; FACTS];
-    for k in 0..FACTS {
-        if let Ok(there) = store.has(k as u32) {
-            held[k] = there;
-        }
-    }
+fn driven<S: Store>(store: &mut S) -> ([bool; FACTS], usize) {
+    let refused = PUTS
+        .iter()
+        .filter(|(k, present)| store.put(*k, *present).is_err())
+        .count();
+    let held = array::from_fn(|k| store.has(k as u32).unwrap_or(false));
     (held, refused)
 }
 
 // 32 objects load, and 33 are a size outside its limits.
 #[test]
 fn objects(rt: HostRuntime) {
-    assert_eq!(rt; answer(one_entry(32), &[0], &[0]), (0, 0));
-    assert_eq!(rt; answer(one_entry(33), &[0], &[0]), (1, 0));
+    let goal = [(Kind::True, 0)];
+    assert_eq!(rt; answer(one_entry(32), &goal), Ok(()));
+    assert_eq!(rt;
+        answer(one_entry(33), &goal),
+        refused(Cause::SizeOutOfLimits, 0)
+    );
 }
 
 // Two predicates of arity three over 32 objects have 65,536 atoms; one atom more is too many.
 #[test]
 fn atoms(rt: HostRuntime) {
+    let (triples, goal) = ((Kind::Predicate, 3), (Kind::True, 0));
     let most = Sizes {
         predicates: 2,
         entries: 3,
         ..one_entry(32)
     };
-    assert_eq!(rt; answer(most, &[15, 15, 0], &[3, 3, 0]), (0, 0));
+    assert_eq!(rt; answer(most, &[triples, triples, goal]), Ok(()));
     let more = Sizes {
         predicates: 3,
         entries: 4,
         ..one_entry(32)
     };
-    assert_eq!(rt; answer(more, &[15, 15, 15, 0], &[3, 3, 0, 0]), (7, 2));
+    assert_eq!(rt;
+        answer(more, &[triples, triples, triples, goal]),
+        refused(Cause::TooManyAtoms, 2)
+    );
 }
 
 // An AND of 255 TRUEs loads; that of 256 has a 257th entry.
 #[test]
 fn entries_of_a_formula(rt: HostRuntime) {
-    let mut kinds = [0; 257];
-    kinds[0] = 5;
-    let mut operands = [0; 257];
-    operands[0] = 255;
+    let mut table = [(Kind::True, 0); 257];
+    table[0] = (Kind::And, 255);
     let most = Sizes {
         entries: 256,
         ..one_entry(1)
     };
-    assert_eq!(rt; answer(most, &kinds, &operands), (0, 0));
-    operands[0] = 256;
+    assert_eq!(rt; answer(most, &table), Ok(()));
+    table[0] = (Kind::And, 256);
     let more = Sizes {
         entries: 257,
         ..one_entry(1)
     };
-    assert_eq!(rt; answer(more, &kinds, &operands), (6, 256));
+    assert_eq!(rt; answer(more, &table), refused(Cause::TooLongOrDeep, 256));
 }
 
 // Each refusal of loading once.
@@ -120,28 +134,46 @@ fn refusals(rt: HostRuntime) {
         entries: 2,
         ..one_entry(1)
     };
-    assert_eq!(rt; answer(one_entry(0), &[0], &[0]), (1, 0), "no objects");
-    assert_eq!(rt; answer(two, &[4], &[0, 0]), (2, 1), "kinds end early");
-    assert_eq!(rt; answer(two, &[4, 0], &[0]), (2, 1), "operands end early");
+    let not_true = Arrays::of(&[(Kind::Not, 0), (Kind::True, 0)]);
+    let not = Arrays::of(&[(Kind::Not, 0)]);
     assert_eq!(rt;
-        answer(one_entry(1), &[10], &[0]),
-        (3, 0),
+        answer(one_entry(0), &[(Kind::True, 0)]),
+        refused(Cause::SizeOutOfLimits, 0),
+        "no objects"
+    );
+    assert_eq!(rt;
+        load(two, &not.kinds, &not_true.operands),
+        refused(Cause::ArrayTooShort, 1),
+        "kinds end early"
+    );
+    assert_eq!(rt;
+        load(two, &not_true.kinds, &not.operands),
+        refused(Cause::ArrayTooShort, 1),
+        "operands end early"
+    );
+    assert_eq!(rt;
+        answer(one_entry(1), &[(Kind::Object, 0)]),
+        refused(Cause::KindNotPermitted, 0),
         "a term is no formula"
     );
-    assert_eq!(rt; answer(two, &[7, 0], &[0, 0]), (4, 2), "IMPLY lacks a part");
     assert_eq!(rt;
-        answer(two, &[0, 0], &[0, 0]),
-        (4, 1),
+        answer(two, &[(Kind::Imply, 0), (Kind::True, 0)]),
+        refused(Cause::EntriesMismatch, 2),
+        "IMPLY lacks a part"
+    );
+    assert_eq!(rt;
+        answer(two, &[(Kind::True, 0), (Kind::True, 0)]),
+        refused(Cause::EntriesMismatch, 1),
         "an entry is left over"
     );
     assert_eq!(rt;
-        answer(one_entry(1), &[0], &[1]),
-        (5, 0),
+        answer(one_entry(1), &[(Kind::True, 1)]),
+        refused(Cause::OperandOutOfRange, 0),
         "TRUE has operand 0"
     );
     assert_eq!(rt;
-        answer(typed, &[14, 0], &[2, 0]),
-        (5, 0),
+        answer(typed, &[(Kind::TypeSet, 2), (Kind::True, 0)]),
+        refused(Cause::OperandOutOfRange, 0),
         "a bit for no object"
     );
 }
@@ -149,20 +181,22 @@ fn refusals(rt: HostRuntime) {
 // The fourth quantifier inside one another is too deep.
 #[test]
 fn quantifiers(rt: HostRuntime) {
+    let (ty, goal) = ((Kind::TypeSet, 1), (Kind::True, 0));
+    let (forall, exists) = ((Kind::Forall, 0), (Kind::Exists, 0));
     let three = Sizes {
         types: 1,
         entries: 5,
         ..one_entry(1)
     };
-    assert_eq!(rt; answer(three, &[14, 8, 9, 8, 0], &[1, 0, 0, 0, 0]), (0, 0));
+    assert_eq!(rt; answer(three, &[ty, forall, exists, forall, goal]), Ok(()));
     let four = Sizes {
         types: 1,
         entries: 6,
         ..one_entry(1)
     };
     assert_eq!(rt;
-        answer(four, &[14, 8, 9, 8, 9, 0], &[1, 0, 0, 0, 0, 0]),
-        (6, 4)
+        answer(four, &[ty, forall, exists, forall, exists, goal]),
+        refused(Cause::TooLongOrDeep, 4)
     );
 }
 
@@ -171,16 +205,9 @@ fn quantifiers(rt: HostRuntime) {
 fn both_stores(rt: HostRuntime) {
     let mut bytes = [0; 3];
     let mut bits = Bits::over(&mut bytes);
-    let (in_bits, refused_by_bits) = driven(&mut bits);
     let mut slots = [7; 24];
     let mut list = ListStore::over(&mut slots);
-    let (in_list, refused_by_list) = driven(&mut list);
-    let mut wanted = [false; FACTS];
-    for k in [0, 1, 3, 8, 15, 16] {
-        wanted[k] = true;
-    }
-    assert_eq!(rt; in_bits, wanted);
-    assert_eq!(rt; in_list, wanted);
-    assert_eq!(rt; refused_by_bits, 2);
-    assert_eq!(rt; refused_by_list, 2);
+    let held = array::from_fn(|k| [0, 1, 3, 8, 15, 16].contains(&k));
+    assert_eq!(rt; driven(&mut bits), (held, 2));
+    assert_eq!(rt; driven(&mut list), (held, 2));
 }

@@ -7,6 +7,7 @@ use fault::Fault;
 use protocol::Run;
 use std::alloc::{AllocError, Global};
 use store::Bits;
+use table::Kind;
 
 // A goal: AND of some parts TRUE and, as the last part, `depth` NOTs one inside the other and a TRUE.
 struct Goal {
@@ -50,20 +51,21 @@ const GOALS: [Goal; 5] = [
     },
 ];
 
-fn fill(kinds: &mut Vec<u8>, operands: &mut Vec<u32>, goal: &Goal) -> Result<(), AllocError> {
-    kinds.push(5)?;
-    operands.push(goal.said)?;
-    for _ in 0..goal.parts {
-        kinds.push(0)?;
-        operands.push(0)?;
-    }
-    for _ in 0..goal.depth {
-        kinds.push(4)?;
-        operands.push(0)?;
-    }
-    kinds.push(0)?;
-    operands.push(0)?;
+// The kinds of the book's entries.
+fn fill_kinds(kinds: &mut Vec<u8>, goal: &Goal) -> Result<(), AllocError> {
+    let parts = goal.parts as usize;
+    let depth = goal.depth as usize;
+    kinds.push(u8::from(Kind::And))?;
+    kinds.resize(1 + parts, u8::from(Kind::True))?;
+    kinds.resize(1 + parts + depth, u8::from(Kind::Not))?;
+    kinds.push(u8::from(Kind::True))?;
     Ok(())
+}
+
+// The operands of so many entries: only the first has one.
+fn fill_operands(operands: &mut Vec<u32>, goal: &Goal, entries: usize) -> Result<(), AllocError> {
+    operands.push(goal.said)?;
+    operands.resize(entries, 0)
 }
 
 // Begins a run of the book, asks for the goal and ends the run.
@@ -94,11 +96,9 @@ fn tell(rt: &impl Print, heap: Global, goal: &Goal) -> anyhow::Result<()> {
     let words = goal.words;
     let mut kinds = Vec::new(heap);
     let mut operands = Vec::new(heap);
-    fill(&mut kinds, &mut operands, goal)?;
-    let entries = match u32::try_from(kinds.len()) {
-        Ok(entries) => entries,
-        Err(_) => 0,
-    };
+    fill_kinds(&mut kinds, goal)?;
+    fill_operands(&mut operands, goal, kinds.len())?;
+    let entries = u32::try_from(kinds.len()).unwrap_or(0);
     match answer(entries, kinds.as_slice(), operands.as_slice()) {
         Ok(value) => println!(rt; "{words}: opens, and its goal is {value}")?,
         Err(fault) => println!(rt; "{words}: {fault}")?,

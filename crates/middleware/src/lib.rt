@@ -1,10 +1,13 @@
-// The middleware scenario as a task table: a publisher and a reader share a message of two fields, heading and track, under one mutex.
+// The middleware scenario as tables, and its story: a publisher and a reader share a message of two fields, heading and track, under one
+// mutex.
 #![tactic(auto)]
 
 mod ground_actions;
+mod story;
 
 use adl::Sizes;
 pub use ground_actions::{BOOK_ENTRIES, BOOK_SIZES, BOOK_TABLE};
+pub use story::{QUESTIONS, STEPS, Step};
 use table::Kind;
 
 // Objects.

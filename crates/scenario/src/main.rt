@@ -5,10 +5,8 @@ mod story;
 
 use middleware::TABLE;
 use story::tell;
-use table::{kinds_of, operands_of};
+use trials::Arrays;
 
 fn main(rt: HostRuntime) -> anyhow::Result<()> {
-    let kinds = kinds_of(&TABLE);
-    let operands = operands_of(&TABLE);
-    tell(&rt, &kinds, &operands)
+    tell(&rt, &Arrays::of(&TABLE))
 }

@@ -1,310 +1,451 @@
 // Small tasks, and the calls that are played on each.
 use adl::Sizes;
 use protocol::{Call, Name};
+use table::Kind;
 
+// A task table is written in two parts: its types and predicates, and its facts, its goal and its operators.
 pub struct Case {
     pub words: &'static str,
     pub sizes: Sizes,
-    pub kinds: &'static [u8],
-    pub operands: &'static [u32],
+    pub declared: &'static [(Kind, u32)],
+    pub rest: &'static [(Kind, u32)],
     pub calls: &'static [Call<'static>],
 }
+
+// Asks for the goal alone.
+const GOAL: &[Call] = &[Call::Begin, Call::Goal, Call::End];
+
+// Three objects; types of objects 0 and 1, of none and of all; predicates of one argument, of two and of none.
+const THREE_SIZES: Sizes = Sizes {
+    objects: 3,
+    types: 3,
+    predicates: 3,
+    facts: 1,
+    operators: 0,
+    entries: 10,
+};
+
+const THREE: &[(Kind, u32)] = &[
+    (Kind::TypeSet, 3),
+    (Kind::TypeSet, 0),
+    (Kind::TypeSet, 7),
+    (Kind::Predicate, 1),
+    (Kind::Predicate, 2),
+    (Kind::Predicate, 0),
+];
+
+// No types; three predicates of no arguments.
+const BARE_SIZES: Sizes = Sizes {
+    objects: 1,
+    types: 0,
+    predicates: 3,
+    facts: 0,
+    operators: 1,
+    entries: 10,
+};
+
+const BARE: &[(Kind, u32)] = &[
+    (Kind::Predicate, 0),
+    (Kind::Predicate, 0),
+    (Kind::Predicate, 0),
+];
+
+// Two objects, of which one type has the second and one has both; the goal is that both have the predicate.
+const TWO_SIZES: Sizes = Sizes {
+    objects: 2,
+    types: 2,
+    predicates: 1,
+    facts: 0,
+    operators: 2,
+    entries: 18,
+};
+
+const TWO: &[(Kind, u32)] = &[(Kind::TypeSet, 2), (Kind::TypeSet, 3), (Kind::Predicate, 1)];
+
+const TWO_REST: &[(Kind, u32)] = &[
+    (Kind::Forall, 1),
+    (Kind::Atom, 0),
+    (Kind::Variable, 0),
+    (Kind::Operator, 2),
+    (Kind::Parameter, 0),
+    (Kind::Parameter, 0),
+    (Kind::True, 0),
+    (Kind::Atom, 0),
+    (Kind::Variable, 0),
+    (Kind::Operator, 2),
+    (Kind::Parameter, 1),
+    (Kind::Parameter, 1),
+    (Kind::True, 0),
+    (Kind::Atom, 0),
+    (Kind::Variable, 1),
+];
+
+// Four objects, of which one type has all and one has the middle two; the goal is that all have the predicate.
+const FOUR_SIZES: Sizes = Sizes {
+    objects: 4,
+    types: 2,
+    predicates: 1,
+    facts: 1,
+    operators: 2,
+    entries: 30,
+};
+
+const FOUR: &[(Kind, u32)] = &[
+    (Kind::TypeSet, 15),
+    (Kind::TypeSet, 6),
+    (Kind::Predicate, 1),
+];
+
+const FOUR_REST: &[(Kind, u32)] = &[
+    (Kind::Atom, 0),
+    (Kind::Object, 3),
+    (Kind::Forall, 0),
+    (Kind::Atom, 0),
+    (Kind::Variable, 0),
+    (Kind::Operator, 0),
+    (Kind::True, 0),
+    (Kind::Forall, 1),
+    (Kind::Atom, 0),
+    (Kind::Variable, 0),
+    (Kind::Operator, 1),
+    (Kind::Parameter, 1),
+    (Kind::Not, 0),
+    (Kind::Atom, 0),
+    (Kind::Variable, 0),
+    (Kind::Forall, 0),
+    (Kind::When, 0),
+    (Kind::Not, 0),
+    (Kind::Equal, 0),
+    (Kind::Variable, 0),
+    (Kind::Variable, 1),
+    (Kind::And, 2),
+    (Kind::Atom, 0),
+    (Kind::Variable, 1),
+    (Kind::Not, 0),
+    (Kind::Atom, 0),
+    (Kind::Variable, 0),
+];
 
 pub const CASES: [Case; 34] = [
     Case {
         words: "FORALL over an empty type",
-        sizes: Sizes {
-            objects: 3,
-            types: 3,
-            predicates: 3,
-            facts: 1,
-            operators: 0,
-            entries: 10,
-        },
-        kinds: &[14, 14, 14, 15, 15, 15, 2, 10, 8, 1],
-        operands: &[3, 0, 7, 1, 2, 0, 0, 0, 1, 0],
-        calls: &[Call::Begin, Call::Goal, Call::End],
+        sizes: THREE_SIZES,
+        declared: THREE,
+        rest: &[
+            (Kind::Atom, 0),
+            (Kind::Object, 0),
+            (Kind::Forall, 1),
+            (Kind::False, 0),
+        ],
+        calls: GOAL,
     },
     Case {
         words: "EXISTS over an empty type",
-        sizes: Sizes {
-            objects: 3,
-            types: 3,
-            predicates: 3,
-            facts: 1,
-            operators: 0,
-            entries: 10,
-        },
-        kinds: &[14, 14, 14, 15, 15, 15, 2, 10, 9, 0],
-        operands: &[3, 0, 7, 1, 2, 0, 0, 0, 1, 0],
-        calls: &[Call::Begin, Call::Goal, Call::End],
+        sizes: THREE_SIZES,
+        declared: THREE,
+        rest: &[
+            (Kind::Atom, 0),
+            (Kind::Object, 0),
+            (Kind::Exists, 1),
+            (Kind::True, 0),
+        ],
+        calls: GOAL,
     },
     Case {
         words: "OR of nothing",
         sizes: Sizes {
-            objects: 3,
-            types: 3,
-            predicates: 3,
-            facts: 1,
-            operators: 0,
             entries: 9,
+            ..THREE_SIZES
         },
-        kinds: &[14, 14, 14, 15, 15, 15, 2, 10, 6],
-        operands: &[3, 0, 7, 1, 2, 0, 0, 0, 0],
-        calls: &[Call::Begin, Call::Goal, Call::End],
+        declared: THREE,
+        rest: &[(Kind::Atom, 0), (Kind::Object, 0), (Kind::Or, 0)],
+        calls: GOAL,
     },
     Case {
         words: "AND of nothing",
         sizes: Sizes {
-            objects: 3,
-            types: 3,
-            predicates: 3,
-            facts: 1,
-            operators: 0,
             entries: 9,
+            ..THREE_SIZES
         },
-        kinds: &[14, 14, 14, 15, 15, 15, 2, 10, 5],
-        operands: &[3, 0, 7, 1, 2, 0, 0, 0, 0],
-        calls: &[Call::Begin, Call::Goal, Call::End],
+        declared: THREE,
+        rest: &[(Kind::Atom, 0), (Kind::Object, 0), (Kind::And, 0)],
+        calls: GOAL,
     },
     Case {
         words: "EQUAL of one object",
         sizes: Sizes {
-            objects: 3,
-            types: 3,
-            predicates: 3,
-            facts: 1,
-            operators: 0,
             entries: 11,
+            ..THREE_SIZES
         },
-        kinds: &[14, 14, 14, 15, 15, 15, 2, 10, 3, 10, 10],
-        operands: &[3, 0, 7, 1, 2, 0, 0, 0, 0, 1, 1],
-        calls: &[Call::Begin, Call::Goal, Call::End],
+        declared: THREE,
+        rest: &[
+            (Kind::Atom, 0),
+            (Kind::Object, 0),
+            (Kind::Equal, 0),
+            (Kind::Object, 1),
+            (Kind::Object, 1),
+        ],
+        calls: GOAL,
     },
     Case {
         words: "EQUAL of two objects",
         sizes: Sizes {
-            objects: 3,
-            types: 3,
-            predicates: 3,
-            facts: 1,
-            operators: 0,
             entries: 11,
+            ..THREE_SIZES
         },
-        kinds: &[14, 14, 14, 15, 15, 15, 2, 10, 3, 10, 10],
-        operands: &[3, 0, 7, 1, 2, 0, 0, 0, 0, 0, 1],
-        calls: &[Call::Begin, Call::Goal, Call::End],
+        declared: THREE,
+        rest: &[
+            (Kind::Atom, 0),
+            (Kind::Object, 0),
+            (Kind::Equal, 0),
+            (Kind::Object, 0),
+            (Kind::Object, 1),
+        ],
+        calls: GOAL,
     },
     Case {
         words: "IMPLY from false",
         sizes: Sizes {
-            objects: 3,
-            types: 3,
-            predicates: 3,
-            facts: 1,
-            operators: 0,
             entries: 11,
+            ..THREE_SIZES
         },
-        kinds: &[14, 14, 14, 15, 15, 15, 2, 10, 7, 1, 1],
-        operands: &[3, 0, 7, 1, 2, 0, 0, 0, 0, 0, 0],
-        calls: &[Call::Begin, Call::Goal, Call::End],
+        declared: THREE,
+        rest: &[
+            (Kind::Atom, 0),
+            (Kind::Object, 0),
+            (Kind::Imply, 0),
+            (Kind::False, 0),
+            (Kind::False, 0),
+        ],
+        calls: GOAL,
     },
     Case {
         words: "IMPLY from true to false",
         sizes: Sizes {
-            objects: 3,
-            types: 3,
-            predicates: 3,
-            facts: 1,
-            operators: 0,
             entries: 11,
+            ..THREE_SIZES
         },
-        kinds: &[14, 14, 14, 15, 15, 15, 2, 10, 7, 0, 1],
-        operands: &[3, 0, 7, 1, 2, 0, 0, 0, 0, 0, 0],
-        calls: &[Call::Begin, Call::Goal, Call::End],
+        declared: THREE,
+        rest: &[
+            (Kind::Atom, 0),
+            (Kind::Object, 0),
+            (Kind::Imply, 0),
+            (Kind::True, 0),
+            (Kind::False, 0),
+        ],
+        calls: GOAL,
     },
     Case {
         words: "IMPLY from true to true",
         sizes: Sizes {
-            objects: 3,
-            types: 3,
-            predicates: 3,
-            facts: 1,
-            operators: 0,
             entries: 11,
+            ..THREE_SIZES
         },
-        kinds: &[14, 14, 14, 15, 15, 15, 2, 10, 7, 0, 0],
-        operands: &[3, 0, 7, 1, 2, 0, 0, 0, 0, 0, 0],
-        calls: &[Call::Begin, Call::Goal, Call::End],
+        declared: THREE,
+        rest: &[
+            (Kind::Atom, 0),
+            (Kind::Object, 0),
+            (Kind::Imply, 0),
+            (Kind::True, 0),
+            (Kind::True, 0),
+        ],
+        calls: GOAL,
     },
     Case {
         words: "an atom that is a fact",
-        sizes: Sizes {
-            objects: 3,
-            types: 3,
-            predicates: 3,
-            facts: 1,
-            operators: 0,
-            entries: 10,
-        },
-        kinds: &[14, 14, 14, 15, 15, 15, 2, 10, 2, 10],
-        operands: &[3, 0, 7, 1, 2, 0, 0, 0, 0, 0],
-        calls: &[Call::Begin, Call::Goal, Call::End],
+        sizes: THREE_SIZES,
+        declared: THREE,
+        rest: &[
+            (Kind::Atom, 0),
+            (Kind::Object, 0),
+            (Kind::Atom, 0),
+            (Kind::Object, 0),
+        ],
+        calls: GOAL,
     },
     Case {
         words: "an atom that is no fact",
-        sizes: Sizes {
-            objects: 3,
-            types: 3,
-            predicates: 3,
-            facts: 1,
-            operators: 0,
-            entries: 10,
-        },
-        kinds: &[14, 14, 14, 15, 15, 15, 2, 10, 2, 10],
-        operands: &[3, 0, 7, 1, 2, 0, 0, 0, 0, 1],
-        calls: &[Call::Begin, Call::Goal, Call::End],
+        sizes: THREE_SIZES,
+        declared: THREE,
+        rest: &[
+            (Kind::Atom, 0),
+            (Kind::Object, 0),
+            (Kind::Atom, 0),
+            (Kind::Object, 1),
+        ],
+        calls: GOAL,
     },
     Case {
         words: "FORALL with one member false",
         sizes: Sizes {
-            objects: 3,
-            types: 3,
-            predicates: 3,
-            facts: 1,
-            operators: 0,
             entries: 11,
+            ..THREE_SIZES
         },
-        kinds: &[14, 14, 14, 15, 15, 15, 2, 10, 8, 2, 11],
-        operands: &[3, 0, 7, 1, 2, 0, 0, 0, 0, 0, 0],
-        calls: &[Call::Begin, Call::Goal, Call::End],
+        declared: THREE,
+        rest: &[
+            (Kind::Atom, 0),
+            (Kind::Object, 0),
+            (Kind::Forall, 0),
+            (Kind::Atom, 0),
+            (Kind::Variable, 0),
+        ],
+        calls: GOAL,
     },
     Case {
         words: "EXISTS with one member true",
         sizes: Sizes {
-            objects: 3,
-            types: 3,
-            predicates: 3,
-            facts: 1,
-            operators: 0,
             entries: 11,
+            ..THREE_SIZES
         },
-        kinds: &[14, 14, 14, 15, 15, 15, 2, 10, 9, 2, 11],
-        operands: &[3, 0, 7, 1, 2, 0, 0, 0, 0, 0, 0],
-        calls: &[Call::Begin, Call::Goal, Call::End],
+        declared: THREE,
+        rest: &[
+            (Kind::Atom, 0),
+            (Kind::Object, 0),
+            (Kind::Exists, 0),
+            (Kind::Atom, 0),
+            (Kind::Variable, 0),
+        ],
+        calls: GOAL,
     },
     Case {
         words: "every object has another",
         sizes: Sizes {
-            objects: 3,
-            types: 3,
-            predicates: 3,
-            facts: 1,
-            operators: 0,
             entries: 14,
+            ..THREE_SIZES
         },
-        kinds: &[14, 14, 14, 15, 15, 15, 2, 10, 8, 9, 4, 3, 11, 11],
-        operands: &[3, 0, 7, 1, 2, 0, 0, 0, 2, 2, 0, 0, 0, 1],
-        calls: &[Call::Begin, Call::Goal, Call::End],
+        declared: THREE,
+        rest: &[
+            (Kind::Atom, 0),
+            (Kind::Object, 0),
+            (Kind::Forall, 2),
+            (Kind::Exists, 2),
+            (Kind::Not, 0),
+            (Kind::Equal, 0),
+            (Kind::Variable, 0),
+            (Kind::Variable, 1),
+        ],
+        calls: GOAL,
     },
     Case {
         words: "some object is every other",
         sizes: Sizes {
-            objects: 3,
-            types: 3,
-            predicates: 3,
-            facts: 1,
-            operators: 0,
             entries: 13,
+            ..THREE_SIZES
         },
-        kinds: &[14, 14, 14, 15, 15, 15, 2, 10, 9, 8, 3, 11, 11],
-        operands: &[3, 0, 7, 1, 2, 0, 0, 0, 0, 0, 0, 0, 1],
-        calls: &[Call::Begin, Call::Goal, Call::End],
+        declared: THREE,
+        rest: &[
+            (Kind::Atom, 0),
+            (Kind::Object, 0),
+            (Kind::Exists, 0),
+            (Kind::Forall, 0),
+            (Kind::Equal, 0),
+            (Kind::Variable, 0),
+            (Kind::Variable, 1),
+        ],
+        calls: GOAL,
     },
     Case {
         words: "three quantifiers",
         sizes: Sizes {
-            objects: 3,
-            types: 3,
-            predicates: 3,
-            facts: 1,
-            operators: 0,
             entries: 19,
+            ..THREE_SIZES
         },
-        kinds: &[
-            14, 14, 14, 15, 15, 15, 2, 10, 8, 9, 8, 6, 3, 11, 11, 4, 3, 11, 11,
+        declared: THREE,
+        rest: &[
+            (Kind::Atom, 0),
+            (Kind::Object, 0),
+            (Kind::Forall, 0),
+            (Kind::Exists, 0),
+            (Kind::Forall, 0),
+            (Kind::Or, 2),
+            (Kind::Equal, 0),
+            (Kind::Variable, 0),
+            (Kind::Variable, 1),
+            (Kind::Not, 0),
+            (Kind::Equal, 0),
+            (Kind::Variable, 1),
+            (Kind::Variable, 2),
         ],
-        operands: &[3, 0, 7, 1, 2, 0, 0, 0, 0, 0, 0, 2, 0, 0, 1, 0, 0, 1, 2],
-        calls: &[Call::Begin, Call::Goal, Call::End],
+        calls: GOAL,
     },
     Case {
         words: "an atom of two quantified objects",
         sizes: Sizes {
-            objects: 3,
-            types: 3,
-            predicates: 3,
-            facts: 1,
-            operators: 0,
             entries: 14,
+            ..THREE_SIZES
         },
-        kinds: &[14, 14, 14, 15, 15, 15, 2, 10, 10, 9, 9, 2, 11, 11],
-        operands: &[3, 0, 7, 1, 2, 0, 1, 2, 0, 2, 2, 1, 0, 1],
-        calls: &[Call::Begin, Call::Goal, Call::End],
+        declared: THREE,
+        rest: &[
+            (Kind::Atom, 1),
+            (Kind::Object, 2),
+            (Kind::Object, 0),
+            (Kind::Exists, 2),
+            (Kind::Exists, 2),
+            (Kind::Atom, 1),
+            (Kind::Variable, 0),
+            (Kind::Variable, 1),
+        ],
+        calls: GOAL,
     },
     Case {
         words: "its arguments the other way round",
         sizes: Sizes {
-            objects: 3,
-            types: 3,
-            predicates: 3,
-            facts: 1,
-            operators: 0,
             entries: 13,
+            ..THREE_SIZES
         },
-        kinds: &[14, 14, 14, 15, 15, 15, 2, 10, 10, 9, 2, 11, 10],
-        operands: &[3, 0, 7, 1, 2, 0, 1, 2, 0, 0, 1, 0, 2],
-        calls: &[Call::Begin, Call::Goal, Call::End],
+        declared: THREE,
+        rest: &[
+            (Kind::Atom, 1),
+            (Kind::Object, 2),
+            (Kind::Object, 0),
+            (Kind::Exists, 0),
+            (Kind::Atom, 1),
+            (Kind::Variable, 0),
+            (Kind::Object, 2),
+        ],
+        calls: GOAL,
     },
     Case {
         words: "an atom with no arguments",
         sizes: Sizes {
-            objects: 3,
-            types: 3,
-            predicates: 3,
-            facts: 1,
-            operators: 0,
             entries: 8,
+            ..THREE_SIZES
         },
-        kinds: &[14, 14, 14, 15, 15, 15, 2, 2],
-        operands: &[3, 0, 7, 1, 2, 0, 2, 2],
-        calls: &[Call::Begin, Call::Goal, Call::End],
+        declared: THREE,
+        rest: &[(Kind::Atom, 2), (Kind::Atom, 2)],
+        calls: GOAL,
     },
     Case {
         words: "a fact given twice",
         sizes: Sizes {
-            objects: 3,
-            types: 3,
-            predicates: 3,
             facts: 2,
-            operators: 0,
             entries: 12,
+            ..THREE_SIZES
         },
-        kinds: &[14, 14, 14, 15, 15, 15, 2, 10, 2, 10, 2, 10],
-        operands: &[3, 0, 7, 1, 2, 0, 0, 0, 0, 0, 0, 0],
-        calls: &[Call::Begin, Call::Goal, Call::End],
+        declared: THREE,
+        rest: &[
+            (Kind::Atom, 0),
+            (Kind::Object, 0),
+            (Kind::Atom, 0),
+            (Kind::Object, 0),
+            (Kind::Atom, 0),
+            (Kind::Object, 0),
+        ],
+        calls: GOAL,
     },
     Case {
         words: "adding and deleting one atom",
-        sizes: Sizes {
-            objects: 1,
-            types: 0,
-            predicates: 3,
-            facts: 0,
-            operators: 1,
-            entries: 10,
-        },
-        kinds: &[15, 15, 15, 2, 16, 0, 5, 2, 4, 2],
-        operands: &[0, 0, 0, 0, 0, 0, 2, 0, 0, 0],
+        sizes: BARE_SIZES,
+        declared: BARE,
+        rest: &[
+            (Kind::Atom, 0),
+            (Kind::Operator, 0),
+            (Kind::True, 0),
+            (Kind::And, 2),
+            (Kind::Atom, 0),
+            (Kind::Not, 0),
+            (Kind::Atom, 0),
+        ],
         calls: &[
             Call::Begin,
             Call::Perform(Name {
@@ -319,15 +460,21 @@ pub const CASES: [Case; 34] = [
     Case {
         words: "deleting and adding one atom",
         sizes: Sizes {
-            objects: 1,
-            types: 0,
-            predicates: 3,
             facts: 1,
-            operators: 1,
             entries: 11,
+            ..BARE_SIZES
         },
-        kinds: &[15, 15, 15, 2, 2, 16, 0, 5, 4, 2, 2],
-        operands: &[0, 0, 0, 0, 0, 0, 0, 2, 0, 0, 0],
+        declared: BARE,
+        rest: &[
+            (Kind::Atom, 0),
+            (Kind::Atom, 0),
+            (Kind::Operator, 0),
+            (Kind::True, 0),
+            (Kind::And, 2),
+            (Kind::Not, 0),
+            (Kind::Atom, 0),
+            (Kind::Atom, 0),
+        ],
         calls: &[
             Call::Begin,
             Call::Perform(Name {
@@ -341,15 +488,23 @@ pub const CASES: [Case; 34] = [
     Case {
         words: "a WHEN judged before the deletes",
         sizes: Sizes {
-            objects: 1,
-            types: 0,
-            predicates: 3,
             facts: 1,
-            operators: 1,
             entries: 13,
+            ..BARE_SIZES
         },
-        kinds: &[15, 15, 15, 2, 2, 16, 0, 5, 4, 2, 12, 2, 2],
-        operands: &[0, 0, 0, 1, 0, 0, 0, 2, 0, 1, 0, 1, 0],
+        declared: BARE,
+        rest: &[
+            (Kind::Atom, 1),
+            (Kind::Atom, 0),
+            (Kind::Operator, 0),
+            (Kind::True, 0),
+            (Kind::And, 2),
+            (Kind::Not, 0),
+            (Kind::Atom, 1),
+            (Kind::When, 0),
+            (Kind::Atom, 1),
+            (Kind::Atom, 0),
+        ],
         calls: &[
             Call::Begin,
             Call::Perform(Name {
@@ -364,15 +519,18 @@ pub const CASES: [Case; 34] = [
     Case {
         words: "a WHEN that does not count",
         sizes: Sizes {
-            objects: 1,
-            types: 0,
-            predicates: 3,
-            facts: 0,
-            operators: 1,
             entries: 9,
+            ..BARE_SIZES
         },
-        kinds: &[15, 15, 15, 2, 16, 0, 12, 2, 2],
-        operands: &[0, 0, 0, 0, 0, 0, 0, 1, 0],
+        declared: BARE,
+        rest: &[
+            (Kind::Atom, 0),
+            (Kind::Operator, 0),
+            (Kind::True, 0),
+            (Kind::When, 0),
+            (Kind::Atom, 1),
+            (Kind::Atom, 0),
+        ],
         calls: &[
             Call::Begin,
             Call::Perform(Name {
@@ -393,8 +551,16 @@ pub const CASES: [Case; 34] = [
             operators: 2,
             entries: 9,
         },
-        kinds: &[15, 15, 2, 16, 2, 2, 16, 0, 2],
-        operands: &[0, 0, 0, 0, 1, 0, 0, 0, 1],
+        declared: &[(Kind::Predicate, 0), (Kind::Predicate, 0)],
+        rest: &[
+            (Kind::Atom, 0),
+            (Kind::Operator, 0),
+            (Kind::Atom, 1),
+            (Kind::Atom, 0),
+            (Kind::Operator, 0),
+            (Kind::True, 0),
+            (Kind::Atom, 1),
+        ],
         calls: &[
             Call::Begin,
             Call::Perform(Name {
@@ -416,15 +582,16 @@ pub const CASES: [Case; 34] = [
     Case {
         words: "an effect of nothing",
         sizes: Sizes {
-            objects: 1,
-            types: 0,
-            predicates: 3,
-            facts: 0,
-            operators: 1,
             entries: 7,
+            ..BARE_SIZES
         },
-        kinds: &[15, 15, 15, 2, 16, 0, 5],
-        operands: &[0, 0, 0, 0, 0, 0, 0],
+        declared: BARE,
+        rest: &[
+            (Kind::Atom, 0),
+            (Kind::Operator, 0),
+            (Kind::True, 0),
+            (Kind::And, 0),
+        ],
         calls: &[
             Call::Begin,
             Call::Perform(Name {
@@ -437,18 +604,9 @@ pub const CASES: [Case; 34] = [
     },
     Case {
         words: "a name with an object twice",
-        sizes: Sizes {
-            objects: 2,
-            types: 2,
-            predicates: 1,
-            facts: 0,
-            operators: 2,
-            entries: 18,
-        },
-        kinds: &[
-            14, 14, 15, 8, 2, 11, 16, 17, 17, 0, 2, 11, 16, 17, 17, 0, 2, 11,
-        ],
-        operands: &[2, 3, 1, 1, 0, 0, 2, 0, 0, 0, 0, 0, 2, 1, 1, 0, 0, 1],
+        sizes: TWO_SIZES,
+        declared: TWO,
+        rest: TWO_REST,
         calls: &[
             Call::Begin,
             Call::Perform(Name {
@@ -461,18 +619,9 @@ pub const CASES: [Case; 34] = [
     },
     Case {
         words: "names that do not fit",
-        sizes: Sizes {
-            objects: 2,
-            types: 2,
-            predicates: 1,
-            facts: 0,
-            operators: 2,
-            entries: 18,
-        },
-        kinds: &[
-            14, 14, 15, 8, 2, 11, 16, 17, 17, 0, 2, 11, 16, 17, 17, 0, 2, 11,
-        ],
-        operands: &[2, 3, 1, 1, 0, 0, 2, 0, 0, 0, 0, 0, 2, 1, 1, 0, 0, 1],
+        sizes: TWO_SIZES,
+        declared: TWO,
+        rest: TWO_REST,
         calls: &[
             Call::Begin,
             Call::Perform(Name {
@@ -501,22 +650,9 @@ pub const CASES: [Case; 34] = [
     },
     Case {
         words: "FORALL in an effect",
-        sizes: Sizes {
-            objects: 4,
-            types: 2,
-            predicates: 1,
-            facts: 1,
-            operators: 2,
-            entries: 30,
-        },
-        kinds: &[
-            14, 14, 15, 2, 10, 8, 2, 11, 16, 0, 8, 2, 11, 16, 17, 4, 2, 11, 8, 12, 4, 3, 11, 11, 5,
-            2, 11, 4, 2, 11,
-        ],
-        operands: &[
-            15, 6, 1, 0, 3, 0, 0, 0, 0, 0, 1, 0, 0, 1, 1, 0, 0, 0, 0, 0, 0, 0, 0, 1, 2, 0, 1, 0, 0,
-            0,
-        ],
+        sizes: FOUR_SIZES,
+        declared: FOUR,
+        rest: FOUR_REST,
         calls: &[
             Call::Begin,
             Call::Perform(Name {
@@ -533,22 +669,9 @@ pub const CASES: [Case; 34] = [
     },
     Case {
         words: "FORALL and WHEN in an effect",
-        sizes: Sizes {
-            objects: 4,
-            types: 2,
-            predicates: 1,
-            facts: 1,
-            operators: 2,
-            entries: 30,
-        },
-        kinds: &[
-            14, 14, 15, 2, 10, 8, 2, 11, 16, 0, 8, 2, 11, 16, 17, 4, 2, 11, 8, 12, 4, 3, 11, 11, 5,
-            2, 11, 4, 2, 11,
-        ],
-        operands: &[
-            15, 6, 1, 0, 3, 0, 0, 0, 0, 0, 1, 0, 0, 1, 1, 0, 0, 0, 0, 0, 0, 0, 0, 1, 2, 0, 1, 0, 0,
-            0,
-        ],
+        sizes: FOUR_SIZES,
+        declared: FOUR,
+        rest: FOUR_REST,
         calls: &[
             Call::Begin,
             Call::Perform(Name {
@@ -564,18 +687,9 @@ pub const CASES: [Case; 34] = [
     },
     Case {
         words: "calls with no run",
-        sizes: Sizes {
-            objects: 2,
-            types: 2,
-            predicates: 1,
-            facts: 0,
-            operators: 2,
-            entries: 18,
-        },
-        kinds: &[
-            14, 14, 15, 8, 2, 11, 16, 17, 17, 0, 2, 11, 16, 17, 17, 0, 2, 11,
-        ],
-        operands: &[2, 3, 1, 1, 0, 0, 2, 0, 0, 0, 0, 0, 2, 1, 1, 0, 0, 1],
+        sizes: TWO_SIZES,
+        declared: TWO,
+        rest: TWO_REST,
         calls: &[
             Call::Perform(Name {
                 operator: 1,
@@ -601,18 +715,9 @@ pub const CASES: [Case; 34] = [
     },
     Case {
         words: "a begin during a run",
-        sizes: Sizes {
-            objects: 2,
-            types: 2,
-            predicates: 1,
-            facts: 0,
-            operators: 2,
-            entries: 18,
-        },
-        kinds: &[
-            14, 14, 15, 8, 2, 11, 16, 17, 17, 0, 2, 11, 16, 17, 17, 0, 2, 11,
-        ],
-        operands: &[2, 3, 1, 1, 0, 0, 2, 0, 0, 0, 0, 0, 2, 1, 1, 0, 0, 1],
+        sizes: TWO_SIZES,
+        declared: TWO,
+        rest: TWO_REST,
         calls: &[
             Call::Begin,
             Call::Perform(Name {
@@ -636,18 +741,9 @@ pub const CASES: [Case; 34] = [
     },
     Case {
         words: "an atom that is not there",
-        sizes: Sizes {
-            objects: 2,
-            types: 2,
-            predicates: 1,
-            facts: 0,
-            operators: 2,
-            entries: 18,
-        },
-        kinds: &[
-            14, 14, 15, 8, 2, 11, 16, 17, 17, 0, 2, 11, 16, 17, 17, 0, 2, 11,
-        ],
-        operands: &[2, 3, 1, 1, 0, 0, 2, 0, 0, 0, 0, 0, 2, 1, 1, 0, 0, 1],
+        sizes: TWO_SIZES,
+        declared: TWO,
+        rest: TWO_REST,
         calls: &[Call::Begin, Call::Holds(1), Call::Holds(2), Call::End],
     },
     Case {
@@ -660,8 +756,8 @@ pub const CASES: [Case; 34] = [
             operators: 0,
             entries: 3,
         },
-        kinds: &[14, 15, 0],
-        operands: &[1, 2, 0],
-        calls: &[Call::Begin, Call::Goal, Call::End],
+        declared: &[(Kind::TypeSet, 1), (Kind::Predicate, 2)],
+        rest: &[(Kind::True, 0)],
+        calls: GOAL,
     },
 ];

@@ -10,24 +10,33 @@ use protocol::Answer;
 use runs::TaskRun;
 use std::io;
 use store::Bits;
+use table::Kind;
+use trials::Arrays;
 
 // The most calls of a case.
 const MOST: usize = 12;
 
-fn say_all(rt: &impl Print, answers: &[Answer]) -> io::Result<()> {
-    let mut between = ": ";
-    for answer in answers {
-        print!(rt; "{between}{answer}")?;
-        between = ", ";
+// The most entries of a table.
+const ROOM: usize = 30;
+
+// The arrays of a case's table, and TRUE where they have room left.
+fn arrays_of(case: &Case) -> Arrays<ROOM> {
+    let mut table = [(Kind::True, 0); ROOM];
+    for (entry, written) in table.iter_mut().zip(case.declared.iter().chain(case.rest)) {
+        *entry = *written;
     }
-    rt.println("")
+    Arrays::of(&table)
 }
 
 // The answers to the calls of a case, over packed bits with room for 64 facts.
 fn answers_of(case: &Case) -> [Answer; MOST] {
     let mut answers = [Answer::NoRun; MOST];
+    let arrays = arrays_of(case);
     let mut task = Task::new();
-    if task.load(case.sizes, case.kinds, case.operands).is_err() {
+    if task
+        .load(case.sizes, &arrays.kinds, &arrays.operands)
+        .is_err()
+    {
         return answers;
     }
     let mut bytes = [0; 8];
@@ -37,16 +46,19 @@ fn answers_of(case: &Case) -> [Answer; MOST] {
     answers
 }
 
-fn say_cases(rt: &impl Print, cases: &[Case]) -> io::Result<()> {
-    for case in cases {
-        rt.print(case.words)?;
-        let answers = answers_of(case);
-        let count = case.calls.len().min(MOST);
-        say_all(rt, &answers[0..count])?;
+fn say_case(rt: &impl Print, case: &Case) -> io::Result<()> {
+    rt.print(case.words)?;
+    let answers = answers_of(case);
+    for (place, answer) in answers.iter().take(case.calls.len()).enumerate() {
+        let between = if place == 0 { ": " } else { ", " };
+        print!(rt; "{between}{answer}")?;
     }
-    Ok(())
+    rt.println("")
 }
 
 fn main(rt: HostRuntime) -> io::Result<()> {
-    say_cases(&rt, &CASES)
+    for case in &CASES {
+        say_case(&rt, case)?;
+    }
+    Ok(())
 }

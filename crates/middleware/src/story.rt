@@ -1,17 +1,18 @@
-// The steps of the story, and what it asks after each.
-use middleware::{
+// The story of the scenario: its steps, and what is asked after each.
+use crate::{
     COPY, HEADING, HEADING_SHOWN, LOCK, MUTEX, MUTEX_IS_FREE, PUBLISHER, PUBLISHER_HOLDS, READER,
     READER_HOLDS, TIMEOUT, TRACK, TRACK_SHOWN, WRITE,
 };
 use protocol::Name;
 
 // A step, and how the story tells it.
-pub(crate) struct Step<'s> {
-    pub(crate) words: &'s str,
-    pub(crate) name: Name<'s>,
+#[derive(Clone, Copy)]
+pub struct Step {
+    pub words: &'static str,
+    pub name: Name<'static>,
 }
 
-pub(crate) const STEPS: [Step; 7] = [
+pub const STEPS: [Step; 7] = [
     Step {
         words: "the publisher locks the mutex",
         name: Name {
@@ -63,7 +64,8 @@ pub(crate) const STEPS: [Step; 7] = [
     },
 ];
 
-pub(crate) const QUESTIONS: [(&str, u32); 5] = [
+// What the story asks: an atom in words, and its number.
+pub const QUESTIONS: [(&str, u32); 5] = [
     ("the mutex is free", MUTEX_IS_FREE),
     ("the publisher holds the mutex", PUBLISHER_HOLDS),
     ("the reader holds the mutex", READER_HOLDS),
