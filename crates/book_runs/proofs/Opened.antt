@@ -1,4 +1,5 @@
 -- What an opened book's record gives: where its goal and its actions stand.
+use Rattle.table.proofs.Lengths.{operands_long}
 use Rattle.std.proofs.Common.{◌≡◌, ℕ, ◌<◌, true, eqb, get_or, ap, arith}
 use Rattle.table.specs.Answers.{is_good}
 use Rattle.table.specs.Reading.{Out}
@@ -16,10 +17,10 @@ use Rattle.book_runs.proofs.Standing.{begins}
 
 module _ (b : Book) where
   pub parts : Opened (held b)
-  parts = opened (held b) b.formed b.table.numbered
+  parts = opened (held b) b.formed (operands_long b.table.entries b.table.whole)
 
   pub well_formed : WellFormedBook most_names most_names (tree_of b)
-  well_formed = opened_books_are_well_formed (held b) b.formed b.table.numbered b.table.few
+  well_formed = opened_books_are_well_formed (held b) b.formed (operands_long b.table.entries b.table.whole) b.table.few
 
   -- as many facts as the table has relevant atoms
   pub fact_count : facts (tree_of b) ≡ b.table.sizes.relevant

@@ -8,10 +8,10 @@ use table::Kind;
 // The kind of the entry at place `at`.
 pub(crate) fn kind_at(table: &BookTable, at: usize) -> Kind
     requires within { at < table.now.sizes.entries }
-    requires known { slice_index table.now.kinds.now at < 22 }
-    ensures { code_of result ≡ slice_index table.now.kinds.now at }
+    requires known { slice_index table.now.entries.kinds.now at < 22 }
+    ensures { code_of result ≡ slice_index table.now.entries.kinds.now at }
 {
-    match Kind::try_from(table.kinds[at]) {
+    match Kind::try_from(table.entries.kinds[at]) {
         Ok(kind) => kind,
         Err(_) => unreachable(),
     }
@@ -20,7 +20,7 @@ pub(crate) fn kind_at(table: &BookTable, at: usize) -> Kind
 // Whether an entry of this kind stands at place `at`.
 pub(crate) fn is_kind(table: &BookTable, at: usize, kind: Kind) -> bool
     requires { at < table.now.sizes.entries }
-    ensures { result ≡ (slice_index table.now.kinds.now at == code_of kind) }
+    ensures { result ≡ (slice_index table.now.entries.kinds.now at == code_of kind) }
 {
-    table.kinds[at] == u8::from(kind)
+    table.entries.kinds[at] == u8::from(kind)
 }

@@ -32,7 +32,7 @@ pub(crate) fn put_literal<S: Store>(table: &BookTable, at: usize, store: &mut S,
 {
     let last = literal_end(table, at) - 1;
     if is_kind(table, at, Kind::Not) != adds {
-        let _ = store.put(table.operands[last], adds);
+        let _ = store.put(table.entries.operands[last], adds);
     }
 }
 
@@ -50,7 +50,7 @@ pub(crate) fn put_literals<S: Store>(
     ensures set { S.facts store.new ≡ put_literals (S.extent store.old) adds (if holds then items_in (literals (table_in table.now) at) else []) (S.facts store.old) }
 {
     let mut next = at + 1;
-    for _ in (0..table.operands[at]).rev() {
+    for _ in (0..table.entries.operands[at]).rev() {
         if holds {
             put_literal(table, next, store, adds);
         }

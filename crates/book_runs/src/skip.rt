@@ -18,7 +18,7 @@ fn skip(table: &BookTable, levels: u32, at: usize) -> usize
 {
     match kind_at(table, at) {
         Kind::Not => skip(table, levels - 1, at + 1),
-        Kind::And | Kind::Or => skip_all(table, levels - 1, at + 1, table.operands[at]),
+        Kind::And | Kind::Or => skip_all(table, levels - 1, at + 1, table.entries.operands[at]),
         _ => at + 1,
     }
 }

@@ -37,7 +37,7 @@ impl Scene<'_, '_> {
         ensures set { S.facts store.new ≡ put_literals (S.extent store.old) adds (action_literals (state_in self.now) (items_in (effect (table_in self.now) at))) (S.facts store.old) }
     {
         let mut next = at + 1;
-        for _ in (0..self.table.operands[at]).rev() {
+        for _ in (0..self.table.entries.operands[at]).rev() {
             next = self.put_clause(next, store, adds);
         }
     }

@@ -1,4 +1,7 @@
 -- Names that fit, by their first object and the others.
+use Rattle.adl.specs.Kept.{places_from}
+use Rattle.adl.specs.declared.operator_places.OperatorPlaces.{OperatorPlaces}
+use Rattle.std.proofs.lemmas.List.{get_or-map}
 use Rattle.std.proofs.Common.{◌≡◌, ℕ, suc, ◌+◌, ◌-◌, ◌<◌, ◌≤◌, Bool, true, false, not, ◌&&◌, ◌||◌, ltb, List, [], ◌∷◌, length, get_or, take, drop, sym, refl, ap, ◌∙◌, subst, ⊎_elim, arith}
 use Rattle.std.proofs.lemmas.List.{drop_more, take_rest, length-drop, nil_from_length, get_or-take}
 use Rattle.std.proofs.lemmas.Bool.{ne_eqb, lt-ltb, le-ltb, and_parts, and_left, and_right, cases_Bool}
@@ -14,7 +17,7 @@ use Rattle.adl.specs.Tables.{Table, outermost}
 use Rattle.adl.specs.Reads.{parameter, operator_places, effect_place}
 use Rattle.table.proofs.Reading.{series_first}
 use Rattle.adl.proofs.Heads.{operand_read}
-use Rattle.adl_theorems.proofs.Standing.{OperatorRead, operator_stands, effect_at}
+use Rattle.adl_theorems.proofs.Standing.{OperatorRead, operator_stands, operator_places_length}
 
 -- all but the first
 abbrev pub others : List ℕ → List ℕ
@@ -102,18 +105,31 @@ module _ (t : tree.Task) (m : tree.Name) where
     pub fits_not : false ≡ typed t types_of m.objects → false ≡ fits t m
     fits_not e = sym (fits_by_objects ∙ ap (λ z. z && distinct m.objects) (sym e))
 
+-- the places that the record keeps of an operator
+abbrev pub unplaced : OperatorPlaces
+unplaced = record { start = 0; effect = 0 }
+
+abbrev pub places_of : Task → ℕ → OperatorPlaces
+places_of k o = get_or k.operators o unplaced
+
 -- the operators of a loaded task, by the places that the record keeps
 module _ (k : Task) (o : ℕ) (h : o < k.table.sizes.operators) where
+  -- the record keeps the places of the table
+  operator_kept : places_of k o ≡ places_from (held k) (get_or (operator_places (held k)) o 0)
+  operator_kept =
+      let n : o < length (operator_places (held k)) = omega (arith, operator_places_length (held k), h) in
+      sym (get_or-take k.table.sizes.operators k.operators o unplaced h)
+      ∙ ap (λ xs. get_or xs o unplaced) k.placed
+      ∙ get_or-map (places_from (held k)) (operator_places (held k)) o 0 unplaced n
+
   -- where the operator begins
-  pub operator_starts : get_or k.operator_at o 0 ≡ get_or (operator_places (held k)) o 0
-  operator_starts = sym (get_or-take k.table.sizes.operators k.operator_at o 0 h) ∙ ap (λ xs. get_or xs o 0) k.operators
+  pub operator_starts : (places_of k o).start ≡ get_or (operator_places (held k)) o 0
+  operator_starts = ap (λ (x : OperatorPlaces). x.start) operator_kept
 
   -- its parts stand one after the other
-  pub operator_begun : (j : ℕ) × OperatorRead (held k) (get_or k.operator_at o 0) (operator_of (tree_of k) o) j
+  pub operator_begun : (j : ℕ) × OperatorRead (held k) (places_of k o).start (operator_of (tree_of k) o) j
   operator_begun = let w = operator_stands (held k) k.formed o h in (w.0, subst (λ i. OperatorRead (held k) i (operator_of (tree_of k) o) w.0) (sym operator_starts) w.1)
 
   -- where its effect begins
-  pub effect_starts : get_or k.effect_at o 0 ≡ effect_place (held k) (get_or k.operator_at o 0)
-  effect_starts =
-      sym (get_or-take k.table.sizes.operators k.effect_at o 0 h) ∙ ap (λ xs. get_or xs o 0) k.effects
-      ∙ effect_at (held k) o h ∙ ap (effect_place (held k)) (sym operator_starts)
+  pub effect_starts : (places_of k o).effect ≡ effect_place (held k) (places_of k o).start
+  effect_starts = ap (λ (x : OperatorPlaces). x.effect) operator_kept ∙ ap (effect_place (held k)) (sym operator_starts)

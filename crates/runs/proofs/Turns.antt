@@ -21,7 +21,7 @@ use Rattle.protocol.specs.Machines.{Performed}
 use Rattle.runs.specs.Runs.{perform_by_puts}
 use Rattle.protocol.proofs.Images.{had_room}
 use Rattle.adl_theorems.proofs.Standing.{stands, operators_length}
-use Rattle.runs.proofs.Fittings.{as_many_objects, operator_begun, effect_starts}
+use Rattle.runs.proofs.Fittings.{places_of, as_many_objects, operator_begun, effect_starts}
 
 -- the goal stands at the place that the record keeps
 pub goal_stands : (k : Task) → FormulaAt (held k) 0 k.goal_at (tree_of k).goal (operators_place (held k))
@@ -67,7 +67,7 @@ module _ (k : Task) (m : tree.Name) (e : fits (tree_of k) m ≡ true) where
 
   -- where its operator begins
   abbrev start : ℕ
-  start = get_or k.operator_at m.operator 0
+  start = (places_of k m.operator).start
 
   -- how many parameters its operator has
   abbrev count : ℕ
@@ -101,7 +101,7 @@ module _ (k : Task) (m : tree.Name) (e : fits (tree_of k) m ≡ true) where
       }
 
   -- its effect stands at the place that the record keeps
-  pub effect_stands : EffectAt (held k) (length m.objects) (get_or k.effect_at m.operator 0) (operator_of (tree_of k) m.operator).effect (operator_begun k m.operator operator_known).0
+  pub effect_stands : EffectAt (held k) (length m.objects) ((places_of k m.operator).effect) (operator_of (tree_of k) m.operator).effect (operator_begun k m.operator operator_known).0
   effect_stands =
       record {
         room = 256;

@@ -5,7 +5,7 @@ ghost use Rattle.adl.specs.Held.{tree_of};
 ghost use Rattle.protocol.specs.Steps.{put_numbers};
 
 use crate::sheet::Sheet;
-use adl::{Task, arity};
+use adl::Task;
 use store::Store;
 
 // Puts the facts one after the other.
@@ -16,8 +16,8 @@ pub(crate) fn put_facts<S: Store>(task: &Task, store: &mut S)
     let sheet = Sheet::of(task, &[]);
     let mut at = task.table.sizes.types as usize + task.table.sizes.predicates as usize;
     for _k in 0..task.table.sizes.facts {
-        let predicate = task.table.operands[at];
+        let predicate = task.table.entries.operands[at];
         let _ = store.put(sheet.atom_number(predicate, at + 1), true);
-        at += 1 + arity(&task.table, predicate) as usize;
+        at += 1 + task.table.arity(predicate) as usize;
     }
 }

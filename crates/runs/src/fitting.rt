@@ -16,7 +16,7 @@ fn is_member(task: &Task, type_number: u32, object: u32) -> bool
     requires { type_number < task.now.table.sizes.types }
     ensures { result ≡ has object (members (tree_of task.now) type_number) }
 {
-    let members = task.table.operands[type_number as usize];
+    let members = task.table.entries.operands[type_number as usize];
     object < task.table.sizes.objects && (members >> object) % 2 == 1
 }
 
@@ -27,7 +27,7 @@ fn are_typed(task: &Task, at: usize, objects: &[u32]) -> bool
 {
     match objects {
         [] => true,
-        [first, rest @ ..] => is_member(task, task.table.operands[at], *first)
+        [first, rest @ ..] => is_member(task, task.table.entries.operands[at], *first)
             && are_typed(task, at + 1, rest),
     }
 }
@@ -59,8 +59,8 @@ pub(crate) fn fits(task: &Task, name: Name) -> bool
     if name.operator >= task.table.sizes.operators {
         return false;
     }
-    let start = task.operator_at[name.operator as usize];
-    if task.table.operands[start] as usize != name.objects.len() {
+    let start = task.operators[name.operator as usize].start;
+    if task.table.entries.operands[start] as usize != name.objects.len() {
         return false;
     }
     are_typed(task, start + 1, name.objects) && are_distinct(name.objects)

@@ -35,9 +35,9 @@ pub(crate) fn perform_operator<S: Store>(
     ensures judged { result ≡ value (tree_of task.now) (shown image.now) (name_of name.entry).objects (precondition_of (tree_of task.now) (name_of name.entry)) }
     ensures set { S.facts store.new ≡ (if result then put_step (S.extent store.old) (literals_where (value (tree_of task.now) (shown image.now)) (effect_of (tree_of task.now) (name_of name.entry))) (S.facts store.old) else S.facts store.old) }
 {
-    let start = task.operator_at[name.operator as usize];
-    let effect = task.effect_at[name.operator as usize];
-    let precondition = start + 1 + task.table.operands[start] as usize;
+    let start = task.operators[name.operator as usize].start;
+    let effect = task.operators[name.operator as usize].effect;
+    let precondition = start + 1 + task.table.entries.operands[start] as usize;
     let sheet = Sheet::of(task, name.objects);
     let mut scene = Scene { sheet, image };
     scene.attempt(precondition, effect, store)

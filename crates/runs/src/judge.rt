@@ -10,7 +10,6 @@ ghost use Rattle.adl.specs.Held.{held, tree_of};
 use crate::numbering::kind_at;
 use crate::sheet::{Bound, Scene};
 use crate::skip::{skip, skip_all};
-use adl::arity;
 use table::Kind;
 
 // Whether the image shows the atom.
@@ -30,7 +29,7 @@ impl Scene<'_, '_> {
         ensures value { (f : Formula) (j : ℕ) → FormulaIn self.old at f j → (result.0 ≡ value_in self.old f) × (result.1 ≡ j) }
     {
         let task = self.sheet.task;
-        let operand = task.table.operands[at];
+        let operand = task.table.entries.operands[at];
         match kind_at(task, at) {
             Kind::True => (true, at + 1),
             Kind::False => (false, at + 1),
@@ -38,7 +37,7 @@ impl Scene<'_, '_> {
                 let atom = self.sheet.atom_number(operand, at + 1);
                 (
                     shows(self.image, atom),
-                    at + 1 + arity(&task.table, operand) as usize,
+                    at + 1 + task.table.arity(operand) as usize,
                 )
             }
             Kind::Equal => {
@@ -98,7 +97,7 @@ impl Scene<'_, '_> {
             result ≡ over (junction_for all) (λ o. value (tree_of self.old.sheet.task.now) (shown self.old.image.now) (bind (bound self.old.sheet) o) f) (members (tree_of self.old.sheet.task.now) type_number) }
     {
         let task = self.sheet.task;
-        let members = task.table.operands[type_number as usize];
+        let members = task.table.entries.operands[type_number as usize];
         for o in 0..task.table.sizes.objects {
             if (members >> o) % 2 == 1 {
                 let before = self.bind(o);

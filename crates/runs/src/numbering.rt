@@ -8,16 +8,16 @@ ghost use Rattle.runs.specs.Shown.{bound};
 ghost use Rattle.adl.specs.Held.{held, tree_of};
 
 use crate::sheet::Sheet;
-use adl::{Task, arity};
+use adl::Task;
 use table::{Kind, power};
 
 // The kind of the entry at place `at`.
 pub(crate) fn kind_at(task: &Task, at: usize) -> Kind
     requires within { at < task.now.table.sizes.entries }
-    requires known { slice_index task.now.table.kinds.now at < 22 }
-    ensures { code_of result ≡ slice_index task.now.table.kinds.now at }
+    requires known { slice_index task.now.table.entries.kinds.now at < 22 }
+    ensures { code_of result ≡ slice_index task.now.table.entries.kinds.now at }
 {
-    match Kind::try_from(task.table.kinds[at]) {
+    match Kind::try_from(task.table.entries.kinds[at]) {
         Ok(kind) => kind,
         Err(_) => unreachable(),
     }
@@ -30,7 +30,7 @@ fn first_atom(task: &Task, predicate: u32) -> u32
 {
     let mut first = 0;
     for p in 0..predicate {
-        let own = match power(task.table.sizes.objects, arity(&task.table, p)) {
+        let own = match power(task.table.sizes.objects, task.table.arity(p)) {
             Some(own) => own,
             None => unreachable(),
         };
@@ -47,7 +47,7 @@ impl Sheet<'_, '_> {
         ensures object { (x : Term) → TermAt (held self.now.task.now) self.now.depth at x → result ≡ object_of (bound self.now) x }
     {
         let task = self.task;
-        let operand = task.table.operands[at];
+        let operand = task.table.entries.operands[at];
         match kind_at(task, at) {
             Kind::Object => operand,
             _ => self.objects[operand as usize],
@@ -62,7 +62,7 @@ impl Sheet<'_, '_> {
     {
         let task = self.task;
         let mut digits = 0;
-        for k in 0..arity(&task.table, predicate) {
+        for k in 0..task.table.arity(predicate) {
             digits = digits * task.table.sizes.objects + self.term(at + k as usize);
         }
         first_atom(task, predicate) + digits

@@ -5,7 +5,7 @@ ghost use Rattle.runs.specs.Standing.{FormulaAt, FormulasAt};
 ghost use Rattle.adl.specs.Held.{held};
 
 use crate::numbering::kind_at;
-use adl::{Task, arity};
+use adl::Task;
 use table::Kind;
 
 // The place after the formula at place `at`.
@@ -14,9 +14,9 @@ pub(crate) fn skip(task: &Task, at: usize) -> usize
     requires { (v : ℕ) × (f : Formula) × (j : ℕ) × FormulaAt (held task.now) v at f j }
     ensures { (v : ℕ) (f : Formula) (j : ℕ) → FormulaAt (held task.now) v at f j → result ≡ j }
 {
-    let operand = task.table.operands[at];
+    let operand = task.table.entries.operands[at];
     match kind_at(task, at) {
-        Kind::Atom => at + 1 + arity(&task.table, operand) as usize,
+        Kind::Atom => at + 1 + task.table.arity(operand) as usize,
         Kind::Equal => at + 3,
         Kind::Not | Kind::Forall | Kind::Exists => skip(task, at + 1),
         Kind::And | Kind::Or => skip_all(task, at + 1, operand),

@@ -6,7 +6,7 @@ ghost use Rattle.adl.specs.Held.{held};
 
 use crate::numbering::kind_at;
 use crate::skip::skip;
-use adl::{Task, arity};
+use adl::Task;
 use table::Kind;
 
 // The place after an atom that is added or deleted.
@@ -18,7 +18,7 @@ fn skip_change(task: &Task, at: usize) -> usize
         Kind::Not => at + 1,
         _ => at,
     };
-    atom + 1 + arity(&task.table, task.table.operands[atom]) as usize
+    atom + 1 + task.table.arity(task.table.entries.operands[atom]) as usize
 }
 
 // The place after the consequent at place `at`.
@@ -28,7 +28,7 @@ pub(crate) fn skip_consequent(task: &Task, at: usize) -> usize
     ensures { (v : ℕ) (c : Consequent) (j : ℕ) → ConsequentAt (held task.now) v at c j → result ≡ j }
 {
     match kind_at(task, at) {
-        Kind::And => skip_consequents(task, at + 1, task.table.operands[at]),
+        Kind::And => skip_consequents(task, at + 1, task.table.entries.operands[at]),
         _ => skip_change(task, at),
     }
 }
@@ -52,7 +52,7 @@ pub(crate) fn skip_effect(task: &Task, at: usize) -> usize
     ensures { (v : ℕ) (e : Effect) (j : ℕ) → EffectAt (held task.now) v at e j → result ≡ j }
 {
     match kind_at(task, at) {
-        Kind::And => skip_effects(task, at + 1, task.table.operands[at]),
+        Kind::And => skip_effects(task, at + 1, task.table.entries.operands[at]),
         Kind::Forall => skip_effect(task, at + 1),
         Kind::When => {
             let consequent = skip(task, at + 1);

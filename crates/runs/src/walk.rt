@@ -13,7 +13,6 @@ use crate::numbering::kind_at;
 use crate::sheet::{Bound, Scene, Sheet};
 use crate::skip_effect::{skip_consequent, skip_effect};
 use crate::window::Window;
-use adl::arity;
 use rising::{Literal, Sign};
 use table::Kind;
 
@@ -29,11 +28,11 @@ impl Sheet<'_, '_> {
             Kind::Not => (Sign::Deletes, at + 1),
             _ => (Sign::Adds, at),
         };
-        let predicate = task.table.operands[start];
+        let predicate = task.table.entries.operands[start];
         let atom = self.atom_number(predicate, start + 1);
         (
             Literal { atom, sign },
-            start + 1 + arity(&task.table, predicate) as usize,
+            start + 1 + task.table.arity(predicate) as usize,
         )
     }
 
@@ -46,7 +45,7 @@ impl Sheet<'_, '_> {
     {
         let task = self.task;
         match kind_at(task, at) {
-            Kind::And => self.walk_consequents(at + 1, task.table.operands[at], window),
+            Kind::And => self.walk_consequents(at + 1, task.table.entries.operands[at], window),
             _ => {
                 let (literal, next) = self.change(at);
                 window.offer(literal);
@@ -79,7 +78,7 @@ impl Scene<'_, '_> {
         ensures walked { (e : Effect) (j : ℕ) → EffectIn self.old at e j → (window.new ≡ fold offered window.old (literals_in self.old e)) × (result ≡ j) }
     {
         let task = self.sheet.task;
-        let operand = task.table.operands[at];
+        let operand = task.table.entries.operands[at];
         match kind_at(task, at) {
             Kind::And => self.walk_all(at + 1, operand, window),
             Kind::Forall => {
@@ -127,7 +126,7 @@ impl Scene<'_, '_> {
             window.new ≡ fold offered window.old (gather (λ o. effect_literals (tree_of self.old.sheet.task.now) (shown self.old.image.now) (bind (bound self.old.sheet) o) e) (members (tree_of self.old.sheet.task.now) type_number)) }
     {
         let task = self.sheet.task;
-        let members = task.table.operands[type_number as usize];
+        let members = task.table.entries.operands[type_number as usize];
         for o in 0..task.table.sizes.objects {
             if (members >> o) % 2 == 1 {
                 if window.is_packed() {

@@ -13,7 +13,7 @@ invariant-loop g l =
     let m = g.S.Store in
     let n = m.extent l.initial.store in
     let left = many (literal (table l.table)) l.counter l.next in
-    let whole = many (literal (table l.table)) (get_or l.table.operands.now l.at 0) (l.at + 1) in
+    let whole = many (literal (table l.table)) (get_or l.table.entries.operands.now l.at 0) (l.at + 1) in
     record {
       size : m.extent l.store ≡ n;
       stand : is_good left ≡ true;

@@ -1,3 +1,4 @@
+use Rattle.table.proofs.Lengths.{operands_long}
 use Rattle.std.proofs.Common.{◌≡◌, ◌+◌, ◌-◌, ◌≤◌, List, [], length, drop, sym, refl, ap, ◌∙◌, arith}
 use Rattle.std.proofs.lemmas.List.{drop_all}
 use Rattle.table.specs.Reading.{many}
@@ -19,17 +20,17 @@ loop-k-init g c =
 pub offset_bounds-task-at : goal.offset_bounds-task-at
 offset_bounds-task-at g c =
     let w = next_in c.args.task.now c.loop-k._k c.loop-k.at c.loop-k-test.true c.loop-k.invariant.1 in
-    omega (arith, w.2.inside, c.args.task.now.table.entries)
+    omega (arith, w.2.inside, c.args.task.now.table.short)
 
 pub bounds-task-at : goal.bounds-task-at
 bounds-task-at g c =
     let w = next_in c.args.task.now c.loop-k._k c.loop-k.at c.loop-k-test.true c.loop-k.invariant.1 in
-    omega (arith, w.2.inside, c.args.task.now.table.numbered)
+    omega (arith, w.2.inside, (operands_long c.args.task.now.table.entries c.args.task.now.table.whole))
 
 pub overflow_add-at-in-loop-k : goal.overflow_add-at-in-loop-k
 overflow_add-at-in-loop-k g c =
     let w = next_in c.args.task.now c.loop-k._k c.loop-k.at c.loop-k-test.true c.loop-k.invariant.1 in
-    omega (arith, w.2.inside, c.args.task.now.table.entries)
+    omega (arith, w.2.inside, c.args.task.now.table.short)
 
 pub atom_number-requires : goal.atom_number-requires
 atom_number-requires g c =
@@ -40,7 +41,7 @@ atom_number-requires g c =
 pub overflow_add-at-in-loop-k-3 : goal.overflow_add-at-in-loop-k-3
 overflow_add-at-in-loop-k-3 g c =
     let w = next_in c.args.task.now c.loop-k._k c.loop-k.at c.loop-k-test.true c.loop-k.invariant.1 in
-    omega (arith, w.2.ends, w.2.ends_inside, c.arity.ensures, c.args.task.now.table.entries)
+    omega (arith, w.2.ends, w.2.ends_inside, c.arity.ensures, c.args.task.now.table.short)
 
 pub loop-k-preserved : goal.loop-k-preserved
 loop-k-preserved g c =

@@ -1,3 +1,4 @@
+use Rattle.table.proofs.Lengths.{operands_long}
 use Rattle.std.proofs.Common.{arith}
 use Rattle.adl.specs.Held.{held}
 use Rattle.adl_theorems.proofs.Standing.{declarations_inside}
@@ -5,7 +6,7 @@ use Rattle.runs.proofs.Membership.{object_is_member, no_member}
 use Rattle.runs.proofs.fitting.is_member.Goals as goal
 
 pub bounds-task-type_number : goal.bounds-task-type_number
-bounds-task-type_number c = let k = c.args.task.now in omega (arith, declarations_inside (held k) k.formed, k.table.numbered)
+bounds-task-type_number c = let k = c.args.task.now in omega (arith, declarations_inside (held k) k.formed, (operands_long k.table.entries k.table.whole))
 
 pub returns-then-object-task : goal.returns-then-object-task
 returns-then-object-task c =

@@ -1,3 +1,4 @@
+use Rattle.table.proofs.Lengths.{operands_long}
 use Rattle.std.proofs.Common.{cond, List, ap, ◌∙◌, arith}
 use Rattle.model.specs.Meaning.{Literal, operator_of, precondition_of}
 use Rattle.adl.specs.Held.{tree_of}
@@ -15,18 +16,18 @@ pub bounds-task-name-2 : goal.bounds-task-name-2
 bounds-task-name-2 g c = let k = c.args.task.now in omega (arith, operator_known k (name_of c.args.name) c.requires.fits, k.table.operators)
 
 pub overflow_add-precondition : goal.overflow_add-precondition
-overflow_add-precondition g c = let k = c.args.task.now in omega (arith, start_inside k (name_of c.args.name) c.requires.fits, k.table.entries)
+overflow_add-precondition g c = let k = c.args.task.now in omega (arith, start_inside k (name_of c.args.name) c.requires.fits, k.table.short)
 
 pub offset_bounds-task-start : goal.offset_bounds-task-start
-offset_bounds-task-start g c = let k = c.args.task.now in omega (arith, start_inside k (name_of c.args.name) c.requires.fits, k.table.entries)
+offset_bounds-task-start g c = let k = c.args.task.now in omega (arith, start_inside k (name_of c.args.name) c.requires.fits, k.table.short)
 
 pub bounds-task-start : goal.bounds-task-start
-bounds-task-start g c = let k = c.args.task.now in omega (arith, start_inside k (name_of c.args.name) c.requires.fits, k.table.numbered)
+bounds-task-start g c = let k = c.args.task.now in omega (arith, start_inside k (name_of c.args.name) c.requires.fits, (operands_long k.table.entries k.table.whole))
 
 pub overflow_add-precondition-2 : goal.overflow_add-precondition-2
 overflow_add-precondition-2 g c =
     let k = c.args.task.now in
-    omega (arith, start_inside k (name_of c.args.name) c.requires.fits, few_parameters k (name_of c.args.name) c.requires.fits, k.table.entries)
+    omega (arith, start_inside k (name_of c.args.name) c.requires.fits, few_parameters k (name_of c.args.name) c.requires.fits, k.table.short)
 
 pub of-sheet-requires : goal.of-sheet-requires
 of-sheet-requires g c =

@@ -103,7 +103,7 @@ skip-returns-in-Imply t c v f j s =
 
 pub skip-returns-in_default : goal.skip-returns-in_default
 skip-returns-in_default t c v f j s =
-    let k = get_or c.args.task.now.table.kinds.now c.args.at 0 in
+    let k = get_or c.args.task.now.table.entries.kinds.now c.args.at 0 in
     let r = c.kind_at.result in
     let h = c.in_default in
     let q : k ≤ 1 = omega (

@@ -1,3 +1,4 @@
+use Rattle.table.proofs.Lengths.{operands_long}
 use Rattle.std.proofs.Common.{◌+◌, ◌≡◌, ◌-◌, sym, ◌∙◌, arith}
 use Rattle.table.specs.declared.kind.Kind.TheVariants.{And}
 use Rattle.table.proofs.Codes.{other_code}
@@ -8,13 +9,13 @@ pub skip_consequent-kind_at-requires : goal.skip_consequent-kind_at-requires
 skip_consequent-kind_at-requires t c = record { within = consequent_begins c.requires.3; known = consequent_kind c.requires.3 }
 
 pub skip_consequent-overflow_add-at : goal.skip_consequent-overflow_add-at
-skip_consequent-overflow_add-at t c = omega (arith, consequent_begins c.requires.3, c.args.task.now.table.entries)
+skip_consequent-overflow_add-at t c = omega (arith, consequent_begins c.requires.3, c.args.task.now.table.short)
 
 pub skip_consequent-offset_bounds-task-at : goal.skip_consequent-offset_bounds-task-at
-skip_consequent-offset_bounds-task-at t c = omega (arith, consequent_begins c.requires.3, c.args.task.now.table.entries)
+skip_consequent-offset_bounds-task-at t c = omega (arith, consequent_begins c.requires.3, c.args.task.now.table.short)
 
 pub skip_consequent-bounds-task-at : goal.skip_consequent-bounds-task-at
-skip_consequent-bounds-task-at t c = omega (arith, consequent_begins c.requires.3, c.args.task.now.table.numbered)
+skip_consequent-bounds-task-at t c = omega (arith, consequent_begins c.requires.3, (operands_long c.args.task.now.table.entries c.args.task.now.table.whole))
 
 pub skip_consequent-skip_consequents-requires : goal.skip_consequent-skip_consequents-requires
 skip_consequent-skip_consequents-requires t c =

@@ -1,3 +1,4 @@
+use Rattle.table.proofs.Lengths.{operands_long}
 use Rattle.std.proofs.Common.{◌≡◌, ◌-◌, ◌+◌, sym, ◌∙◌, arith}
 use Rattle.table.specs.declared.kind.Kind.TheVariants.{And, Forall, When}
 use Rattle.table.proofs.Codes.{other_code}
@@ -8,13 +9,13 @@ pub skip_effect-kind_at-requires : goal.skip_effect-kind_at-requires
 skip_effect-kind_at-requires t c = record { within = effect_begins c.requires.3; known = effect_kind c.requires.3 }
 
 pub skip_effect-overflow_add-at : goal.skip_effect-overflow_add-at
-skip_effect-overflow_add-at t c = omega (arith, effect_begins c.requires.3, c.args.task.now.table.entries)
+skip_effect-overflow_add-at t c = omega (arith, effect_begins c.requires.3, c.args.task.now.table.short)
 
 pub skip_effect-offset_bounds-task-at : goal.skip_effect-offset_bounds-task-at
-skip_effect-offset_bounds-task-at t c = omega (arith, effect_begins c.requires.3, c.args.task.now.table.entries)
+skip_effect-offset_bounds-task-at t c = omega (arith, effect_begins c.requires.3, c.args.task.now.table.short)
 
 pub skip_effect-bounds-task-at : goal.skip_effect-bounds-task-at
-skip_effect-bounds-task-at t c = omega (arith, effect_begins c.requires.3, c.args.task.now.table.numbered)
+skip_effect-bounds-task-at t c = omega (arith, effect_begins c.requires.3, (operands_long c.args.task.now.table.entries c.args.task.now.table.whole))
 
 pub skip_effect-skip_effects-requires : goal.skip_effect-skip_effects-requires
 skip_effect-skip_effects-requires t c =
@@ -23,7 +24,7 @@ skip_effect-skip_effects-requires t c =
     (omega (arith, effect_begins p.3), (p.0, x.0, p.2, x.2))
 
 pub skip_effect-overflow_add-at-in-Forall : goal.skip_effect-overflow_add-at-in-Forall
-skip_effect-overflow_add-at-in-Forall t c = omega (arith, effect_begins c.requires.3, c.args.task.now.table.entries)
+skip_effect-overflow_add-at-in-Forall t c = omega (arith, effect_begins c.requires.3, c.args.task.now.table.short)
 
 pub skip_effect-skip_effect-requires : goal.skip_effect-skip_effect-requires
 skip_effect-skip_effect-requires t c =
@@ -32,7 +33,7 @@ skip_effect-skip_effect-requires t c =
     (omega (arith, effect_begins p.3), (p.0 + 1, x.0, p.2, x.2))
 
 pub skip_effect-overflow_add-at-in-When : goal.skip_effect-overflow_add-at-in-When
-skip_effect-overflow_add-at-in-When t c = omega (arith, effect_begins c.requires.3, c.args.task.now.table.entries)
+skip_effect-overflow_add-at-in-When t c = omega (arith, effect_begins c.requires.3, c.args.task.now.table.short)
 
 pub skip_effect-skip-consequent-requires : goal.skip_effect-skip-consequent-requires
 skip_effect-skip-consequent-requires t c =

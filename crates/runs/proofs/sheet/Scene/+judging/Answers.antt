@@ -206,7 +206,7 @@ judge-returns-in-Atom t c =
       same = refl;
       value = λ f j s.
           let x = at_atom s c.in-Atom.ensures in (
-            from (tree_of c.args.self.now.sheet.task.now) (shown c.args.self.now.image.now) (bound c.args.self.now.sheet) f (atom (get_or c.args.self.now.sheet.task.now.table.operands.now c.args.at 0) x.0) _ x.1
+            from (tree_of c.args.self.now.sheet.task.now) (shown c.args.self.now.image.now) (bound c.args.self.now.sheet) f (atom (get_or c.args.self.now.sheet.task.now.table.entries.operands.now c.args.at 0) x.0) _ x.1
                 (c.shows.ensures ∙ ap (shown c.args.self.now.image.now) (c.atom_number-atom.ensures.atom x.0 j x.2)),
             omega (arith, after_terms x.2, c.arity.ensures),
           );
@@ -286,7 +286,7 @@ judge-returns-in-Forall t c =
       same = c.judge_each-every.ensures.same;
       value = λ f j s.
           let x = at_forall s c.in-Forall.ensures in (
-            from (tree_of c.args.self.now.sheet.task.now) (shown c.args.self.now.image.now) (bound c.args.self.now.sheet) f (quantifier all (get_or c.args.self.now.sheet.task.now.table.operands.now c.args.at 0) x.0) _ x.1
+            from (tree_of c.args.self.now.sheet.task.now) (shown c.args.self.now.image.now) (bound c.args.self.now.sheet) f (quantifier all (get_or c.args.self.now.sheet.task.now.table.entries.operands.now c.args.at 0) x.0) _ x.1
                 (c.judge_each-every.ensures.value x.0 j x.2),
             c.skip.ensures (c.args.self.now.sheet.depth + 1) x.0 j x.2,
           );
@@ -298,7 +298,7 @@ judge-returns-in-Exists t c =
       same = c.judge_each-some.ensures.same;
       value = λ f j s.
           let x = at_exists s c.in-Exists.ensures in (
-            from (tree_of c.args.self.now.sheet.task.now) (shown c.args.self.now.image.now) (bound c.args.self.now.sheet) f (quantifier any (get_or c.args.self.now.sheet.task.now.table.operands.now c.args.at 0) x.0) _ x.1
+            from (tree_of c.args.self.now.sheet.task.now) (shown c.args.self.now.image.now) (bound c.args.self.now.sheet) f (quantifier any (get_or c.args.self.now.sheet.task.now.table.entries.operands.now c.args.at 0) x.0) _ x.1
                 (c.judge_each-some.ensures.value x.0 j x.2),
             c.skip-in-Exists.ensures (c.args.self.now.sheet.depth + 1) x.0 j x.2,
           );
@@ -425,7 +425,7 @@ judge_each-loop-o-preserved t c =
     let T = A.sheet.task.now in
     let o = c.loop-o.o in
     let l : A.sheet.depth < length A.sheet.objects = search rules in
-    let P : Formula → ℕ → Type 0 = λ f k. in_set (get_or T.table.operands.now c.args.type_number 0) k ≡ true → value (tree_of T) (shown A.image.now) (bind (bound A.sheet) k) f ≡ c.args.all in
+    let P : Formula → ℕ → Type 0 = λ f k. in_set (get_or T.table.entries.operands.now c.args.type_number 0) k ≡ true → value (tree_of T) (shown A.image.now) (bind (bound A.sheet) k) f ≡ c.args.all in
     elim c.if-members-o-eq1.branch [
       | judge_each-then-members-o-eq1+else-part-all w ↦ (
         w.self-is ∙ restored w.judge-part.new.self w.bind-before.ensures.bound w.bind-before.ensures.before w.judge-part.ensures.same w.drop-bound-then-members-o-eq1.ensures ∙ c.loop-o.invariant.0,

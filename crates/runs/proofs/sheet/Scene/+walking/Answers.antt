@@ -1,3 +1,4 @@
+use Rattle.table.proofs.Lengths.{operands_long}
 use Rattle.std.proofs.Common.{◌≡◌, ℕ, ◌+◌, ◌-◌, ◌<◌, List, ◌∷◌, length, get_or, fold, sym, refl, ap, ◌∙◌, subst, arith, rules, eq-eqb}
 use Rattle.std.proofs.lemmas.Bool.{ne_eqb}
 use Rattle.table.specs.declared.kind.Kind.TheVariants.{And, Forall, When}
@@ -46,16 +47,16 @@ instance : (A L B : Scene) (o i k : ℕ) (w v : Window) → L ≡ A → OneMore 
 instance A L B o i k w v same m d l e j s = let n = subst (λ a. OneMore a o B) same m in (d e j (effect_seen n s)).0 ∙ ap (fold offered w) (literals_seen n l e)
 
 pub walk-offset_bounds-task-at : goal.walk-offset_bounds-task-at
-walk-offset_bounds-task-at t c = omega (arith, effect_begins c.requires.2, c.args.self.now.sheet.task.now.table.entries)
+walk-offset_bounds-task-at t c = omega (arith, effect_begins c.requires.2, c.args.self.now.sheet.task.now.table.short)
 
 pub walk-bounds-task-at : goal.walk-bounds-task-at
-walk-bounds-task-at t c = omega (arith, effect_begins c.requires.2, c.args.self.now.sheet.task.now.table.numbered)
+walk-bounds-task-at t c = omega (arith, effect_begins c.requires.2, (operands_long c.args.self.now.sheet.task.now.table.entries c.args.self.now.sheet.task.now.table.whole))
 
 pub walk-kind_at-requires : goal.walk-kind_at-requires
 walk-kind_at-requires t c = record { within = effect_begins c.requires.2; known = effect_kind c.requires.2 }
 
 pub walk-overflow_add-at : goal.walk-overflow_add-at
-walk-overflow_add-at t c = omega (arith, effect_begins c.requires.2, c.args.self.now.sheet.task.now.table.entries)
+walk-overflow_add-at t c = omega (arith, effect_begins c.requires.2, c.args.self.now.sheet.task.now.table.short)
 
 pub walk-walk_all-requires : goal.walk-walk_all-requires
 walk-walk_all-requires t c =
@@ -64,7 +65,7 @@ walk-walk_all-requires t c =
     (omega (arith, effect_begins p.2), (x.0, p.1, x.2))
 
 pub walk-overflow_add-at-in-Forall : goal.walk-overflow_add-at-in-Forall
-walk-overflow_add-at-in-Forall t c = omega (arith, effect_begins c.requires.2, c.args.self.now.sheet.task.now.table.entries)
+walk-overflow_add-at-in-Forall t c = omega (arith, effect_begins c.requires.2, c.args.self.now.sheet.task.now.table.short)
 
 pub walk-walk_each-requires : goal.walk-walk_each-requires
 walk-walk_each-requires t c =
@@ -73,7 +74,7 @@ walk-walk_each-requires t c =
     (omega (arith, effect_begins p.2), (x.4, (x.3, (x.0, p.1, x.2))))
 
 pub walk-overflow_add-at-in-Forall-2 : goal.walk-overflow_add-at-in-Forall-2
-walk-overflow_add-at-in-Forall-2 t c = omega (arith, effect_begins c.requires.2, c.args.self.now.sheet.task.now.table.entries)
+walk-overflow_add-at-in-Forall-2 t c = omega (arith, effect_begins c.requires.2, c.args.self.now.sheet.task.now.table.short)
 
 pub walk-skip_effect-requires : goal.walk-skip_effect-requires
 walk-skip_effect-requires t c =
@@ -82,7 +83,7 @@ walk-skip_effect-requires t c =
     (c.args.self.now.sheet.depth + 1, x.0, p.1, x.2)
 
 pub walk-overflow_add-at-in-When : goal.walk-overflow_add-at-in-When
-walk-overflow_add-at-in-When t c = omega (arith, effect_begins c.requires.2, c.args.self.now.sheet.task.now.table.entries)
+walk-overflow_add-at-in-When t c = omega (arith, effect_begins c.requires.2, c.args.self.now.sheet.task.now.table.short)
 
 pub walk-judge-condition-requires : goal.walk-judge-condition-requires
 walk-judge-condition-requires t c =
@@ -130,7 +131,7 @@ walk-returns-in-Forall t c =
           let k = c.skip_effect.ensures (c.args.self.now.sheet.depth + 1) x.0 j x.2 in
           let T = tree_of c.args.self.now.sheet.task.now in
           let sh = bound c.args.self.now.sheet in
-          let o = get_or c.args.self.now.sheet.task.now.table.operands.now c.args.at 0 in (
+          let o = get_or c.args.self.now.sheet.task.now.table.entries.operands.now c.args.at 0 in (
             from_effect offered T sh _ _ (shown c.args.self.now.image.now) f (for_each o x.0) x.1
                 (for_members offered T sh _ _ (shown c.args.self.now.image.now) o x.0 e),
             k,
@@ -227,7 +228,7 @@ walk_all-returns t c =
 pub walk_each-bounds-task-type_number : goal.walk_each-bounds-task-type_number
 walk_each-bounds-task-type_number t c =
     let k = c.args.self.now.sheet.task.now in
-    omega (arith, declarations_inside (held k) k.formed, c.requires.known, k.table.numbered)
+    omega (arith, declarations_inside (held k) k.formed, c.requires.known, (operands_long k.table.entries k.table.whole))
 
 pub walk_each-loop-o-init : goal.walk_each-loop-o-init
 walk_each-loop-o-init t c = (refl, λ e j s. ap (fold offered c.args.window.now) (sym (none_kept _ _)))
@@ -240,7 +241,7 @@ walk_each-returns-then-is_packed t c =
       same = c.loop-o.invariant.0;
       walked = λ e j s.
           let F = λ (o : ℕ). effect_literals (tree_of T) (shown A.image.now) (bind (bound A.sheet) o) e in
-          stops offered c.args.window.now (in_set (get_or T.table.operands.now c.args.type_number 0)) F
+          stops offered c.args.window.now (in_set (get_or T.table.entries.operands.now c.args.type_number 0)) F
           packed packed_stays _ c.loop-o.o T.table.sizes.objects (omega arith) (sym c.if-is_packed.ensures) (c.loop-o.invariant.1 e j s)
           ∙ ap (λ (xs : List ℕ). fold offered c.args.window.now (gather F xs)) (members_in (held T) T.formed c.args.type_number c.requires.known);
     }
@@ -284,7 +285,7 @@ walk_each-returns t c =
       walked = λ e j s.
           let F = λ (o : ℕ). effect_literals (tree_of T) (shown A.image.now) (bind (bound A.sheet) o) e in
           c.loop-o.invariant.1 e j s
-          ∙ ap (λ (n : ℕ). fold offered c.args.window.now (gather F (keep (in_set (get_or T.table.operands.now c.args.type_number 0)) (below n))))
+          ∙ ap (λ (n : ℕ). fold offered c.args.window.now (gather F (keep (in_set (get_or T.table.entries.operands.now c.args.type_number 0)) (below n))))
           (let q : c.loop-o.o ≡ T.table.sizes.objects = omega arith in q)
           ∙ ap (λ (xs : List ℕ). fold offered c.args.window.now (gather F xs)) (members_in (held T) T.formed c.args.type_number c.requires.known);
     }

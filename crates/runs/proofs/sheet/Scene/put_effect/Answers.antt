@@ -27,7 +27,7 @@ room g c =
     let k = A.sheet.task.now in
     let f = found c.literals_from-window.result c.loop-at.self A c.args.at c.loop-at.from c.loop-at.invariant.0 c.literals_from-window.ensures.found p.0 p.1 p.2 in
     let h = full (literals_in A p.0) c.loop-at.from (kept c.literals_from-window.result) f (omega (arith, c.literals_from-window.ensures.counted)) in
-    let m = few_literals p.2 k.table.entries (tree_of k) (omega (arith, same_objects (held k) k.formed, k.table.objects)) (shown A.image.now) (bound A.sheet) in
+    let m = few_literals p.2 k.table.short (tree_of k) (omega (arith, same_objects (held k) k.formed, k.table.objects)) (shown A.image.now) (bound A.sheet) in
     omega arith
 
 pub literals_from-window-requires : goal.literals_from-window-requires

@@ -1,3 +1,4 @@
+use Rattle.table.proofs.Lengths.{operands_long}
 use Rattle.std.proofs.Common.{◌≡◌, ◌+◌, ◌-◌, List, fold, refl, sym, ap, ◌∙◌, arith}
 use Rattle.model.specs.Trees.{Consequent, outcome, outcomes}
 use Rattle.table.specs.declared.kind.Kind.TheVariants.{And}
@@ -15,13 +16,13 @@ pub walk_consequent-kind_at-requires : goal.walk_consequent-kind_at-requires
 walk_consequent-kind_at-requires t c = record { within = consequent_begins c.requires.2; known = consequent_kind c.requires.2 }
 
 pub walk_consequent-overflow_add-at : goal.walk_consequent-overflow_add-at
-walk_consequent-overflow_add-at t c = omega (arith, consequent_begins c.requires.2, c.args.self.now.task.now.table.entries)
+walk_consequent-overflow_add-at t c = omega (arith, consequent_begins c.requires.2, c.args.self.now.task.now.table.short)
 
 pub walk_consequent-offset_bounds-task-at : goal.walk_consequent-offset_bounds-task-at
-walk_consequent-offset_bounds-task-at t c = omega (arith, consequent_begins c.requires.2, c.args.self.now.task.now.table.entries)
+walk_consequent-offset_bounds-task-at t c = omega (arith, consequent_begins c.requires.2, c.args.self.now.task.now.table.short)
 
 pub walk_consequent-bounds-task-at : goal.walk_consequent-bounds-task-at
-walk_consequent-bounds-task-at t c = omega (arith, consequent_begins c.requires.2, c.args.self.now.task.now.table.numbered)
+walk_consequent-bounds-task-at t c = omega (arith, consequent_begins c.requires.2, (operands_long c.args.self.now.task.now.table.entries c.args.self.now.task.now.table.whole))
 
 pub walk_consequent-walk_consequents-requires : goal.walk_consequent-walk_consequents-requires
 walk_consequent-walk_consequents-requires t c =

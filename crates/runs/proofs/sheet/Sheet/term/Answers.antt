@@ -11,12 +11,12 @@ use Rattle.runs.proofs.Sheets.{within_at}
 use Rattle.runs.proofs.sheet.Sheet.term.Goals as goal
 
 -- what is no object is a variable
-is-variable : (c : goal.After-result-1) (x : Term) → TermAt (held c.args.self.now.task.now) c.args.self.now.depth c.args.at x → get_or c.args.self.now.task.now.table.kinds.now c.args.at 0 ≡ 11
+is-variable : (c : goal.After-result-1) (x : Term) → TermAt (held c.args.self.now.task.now) c.args.self.now.depth c.args.at x → get_or c.args.self.now.task.now.table.entries.kinds.now c.args.at 0 ≡ 11
 is-variable c x s = ⊎_elim (λ e. absurd (other_code _ Object c.in_default.not-Object (c.kind_at.ensures ∙ e))) (λ e. e) (term_kind s)
 
 pub returns-in_default : goal.returns-in_default
 returns-in_default c =
-    let o = get_or c.args.self.now.task.now.table.operands.now c.args.at 0 in
+    let o = get_or c.args.self.now.task.now.table.entries.operands.now c.args.at 0 in
     let objects = c.args.self.now.objects in
     record {
       small =
