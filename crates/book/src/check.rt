@@ -17,7 +17,7 @@ pub(crate) fn check_ground(table: &BookTable, levels: u32, at: usize) -> Result<
     match head.kind {
         Kind::Not => check_ground(table, levels - 1, next),
         Kind::And | Kind::Or => {
-            for _k in 0..head.operand {
+            for _ in 0..head.operand {
                 next = check_ground(table, levels - 1, next)?;
             }
             Ok(next)

@@ -2,7 +2,7 @@
 ghost use Rattle.std.specs.Prelude.{◌≡◌, ◌+◌, ◌-◌, ◌<◌, ◌≤◌, [], length, IfOk};
 ghost use Rattle.std.specs.List.{between};
 ghost use Rattle.table.specs.Reading.{good};
-ghost use Rattle.book.specs.Reads.{objects, precedes as comes_before, name, actions_in};
+ghost use Rattle.book.specs.Reads.{objects, name, actions_in};
 ghost use Rattle.book.specs.Named.{name_in};
 ghost use Rattle.book.specs.Views.{table as table_in, answer};
 
@@ -29,21 +29,6 @@ pub(crate) fn check_objects(table: &BookTable, room: u32, at: usize) -> Result<u
     check_objects(table, room - 1, at + 1)
 }
 
-// Whether the list `a` comes before the list `b`: from the left, and before any longer one that it begins.
-pub(crate) fn precedes(a: &[u32], b: &[u32]) -> bool
-    ensures { result ≡ comes_before a.now b.now }
-{
-    for i in 0..a.len() {
-        if i >= b.len() {
-            return false;
-        }
-        if a[i] != b[i] {
-            return a[i] < b[i];
-        }
-    }
-    a.len() < b.len()
-}
-
 // The name of the action at place `at`, which comes after the name `before`: the place after it.
 fn check_name(table: &BookTable, before: &[u32], at: usize) -> Result<usize, Fault>
     ensures same { result ≡ answer (name (table_in table.now) before.now at) }
@@ -52,7 +37,7 @@ fn check_name(table: &BookTable, before: &[u32], at: usize) -> Result<usize, Fau
 {
     let _ = head_at(table, Place::Action, 513, at)?;
     let end = check_objects(table, 4, at + 1)?;
-    if !precedes(before, &table.operands[at..end]) {
+    if before >= &table.operands[at..end] {
         return Err(refuse(Cause::NotRising, end - 1));
     }
     Ok(end)
@@ -63,15 +48,12 @@ pub(crate) fn check_actions(table: &BookTable, from: usize) -> Result<usize, Fau
     ensures { result ≡ answer (actions_in (table_in table.now) from) }
 {
     let mut at = from;
-    // the last name stands from `start` to `end`
-    let mut start = 0;
-    let mut end = 0;
-    for _k in 0..table.sizes.actions {
-        let named = check_name(table, &table.operands[start..end], at)?;
-        start = at;
-        end = named;
-        let effect = check_ground(table, 513, named)?;
-        at = check_effect(table, effect)?;
+    let mut before: &[u32] = &[];
+    for _ in 0..table.sizes.actions {
+        let named = check_name(table, before, at)?;
+        before = &table.operands[at..named];
+        let judged = check_ground(table, 513, named)?;
+        at = check_effect(table, judged)?;
     }
     Ok(at)
 }
