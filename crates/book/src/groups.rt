@@ -10,30 +10,37 @@ use crate::head::{head_at, refuse};
 use fault::{Cause, Fault};
 use table::Place;
 
-// Where the atom stands among atoms that rise.
-pub(crate) fn place_of(atoms: &[u32], atom: u32) -> Option<usize>
-    requires { Rises atoms.now }
-    ensures { result ≡ (if has atom atoms.now then Some (position atom atoms.now) else None) }
-{
-    atoms.binary_search(&atom).ok()
+// Atoms that rise.
+#[derive(Clone, Copy)]
+pub struct Group<'a> {
+    pub atoms: &'a [u32],
+    ghost rises: { Rises atoms.now },
+}
+
+impl<'a> Group<'a> {
+    // Where the atom stands.
+    pub(crate) fn place_of(&self, atom: u32) -> Option<usize>
+        ensures { result ≡ (if has atom self.now.atoms.now then Some (position atom self.now.atoms.now) else None) }
+    {
+        self.atoms.binary_search(&atom).ok()
+    }
 }
 
 // The atoms of a group, from place `from`: they rise, and none is among the others.
 fn check_members(
     table: &BookTable,
     place: Place,
-    others: &[u32],
+    others: Group,
     count: u32,
     from: usize,
 ) -> Result<usize, Fault>
-    requires { Rises others.now }
-    ensures { result ≡ answer (members_in (table_in table.now) place others.now count from) }
+    ensures { result ≡ answer (members_in (table_in table.now) place others.entry.atoms.now count from) }
 {
     let mut low = 0;
     let mut at = from;
     for _ in 0..count {
         let atom = head_at(table, place, 513, at)?.operand;
-        if (atom as u64) < low || place_of(others, atom).is_some() {
+        if (atom as u64) < low || others.place_of(atom).is_some() {
             return Err(refuse(Cause::NotRising, at));
         }
         low = atom as u64 + 1;
@@ -46,7 +53,13 @@ fn check_members(
 pub(crate) fn check_relevant(table: &BookTable) -> Result<usize, Fault>
     ensures { result ≡ answer (starts_in (table_in table.now)) }
 {
-    check_members(table, Place::Relevant, &[], table.sizes.relevant, 0)
+    check_members(
+        table,
+        Place::Relevant,
+        Group { atoms: &[] },
+        table.sizes.relevant,
+        0,
+    )
 }
 
 // The atoms that are always true, from place `from`.
@@ -55,6 +68,8 @@ pub(crate) fn check_always(table: &BookTable, from: usize) -> Result<usize, Faul
     requires rising { Rises (take table.now.sizes.relevant table.now.operands.now) }
     ensures { result ≡ answer (always_in (table_in table.now) from) }
 {
-    let relevant = &table.operands[..table.sizes.relevant as usize];
+    let relevant = Group {
+        atoms: &table.operands[..table.sizes.relevant as usize],
+    };
     check_members(table, Place::Always, relevant, table.sizes.always, from)
 }

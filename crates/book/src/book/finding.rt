@@ -7,7 +7,7 @@ ghost use Rattle.book.specs.Held.{held, tree_of};
 
 use super::Book;
 use crate::find::{end_of_body, end_of_name, name_at};
-use crate::groups::place_of;
+use crate::groups::Group;
 use protocol::Name;
 use std::cmp::Ordering;
 
@@ -48,8 +48,10 @@ impl<'a> Book<'a> {
     pub fn fact_of(&self, atom: u32) -> Option<u32>
         ensures { result ≡ fact_in (tree_of self.now) atom }
     {
-        let relevant = &self.table.operands[..self.table.sizes.relevant as usize];
-        place_of(relevant, atom).map(|place| place as u32)
+        let relevant = Group {
+            atoms: &self.table.operands[..self.table.sizes.relevant as usize],
+        };
+        relevant.place_of(atom).map(|place| place as u32)
     }
 
     // Whether the atom is always true.
@@ -58,7 +60,10 @@ impl<'a> Book<'a> {
     {
         let from = self.table.sizes.relevant as usize;
         let to = from + self.table.sizes.always as usize;
-        place_of(&self.table.operands[from..to], atom).is_some()
+        let always = Group {
+            atoms: &self.table.operands[from..to],
+        };
+        always.place_of(atom).is_some()
     }
 
     // How many atoms the task has.

@@ -13,7 +13,7 @@ returns-in_err-atom c =
     let t = table c.args.table.now in
     let p = err_from_is_err_and c.from_residual.result c.from_residual.ensures.1 in
     p.1 ∙ ap Err p.2
-    ∙ series_refused layer.Book (member t c.args.place c.args.others.now) after_member (c.args.count - c.loop.counter) c.loop.low c.loop.at c.in_err-atom.field-0.0 (omega arith) (member_refused t c.args.place c.args.others.now c.loop.low c.loop.at c.in_err-atom.field-0.0 c.in_err-atom.ensures.same)
+    ∙ series_refused layer.Book (member t c.args.place c.args.others.atoms.now) after_member (c.args.count - c.loop.counter) c.loop.low c.loop.at c.in_err-atom.field-0.0 (omega arith) (member_refused t c.args.place c.args.others.atoms.now c.loop.low c.loop.at c.in_err-atom.field-0.0 c.in_err-atom.ensures.same)
     ∙ c.loop.invariant
 
 pub returns-then-atom-low : goal.returns-then-atom-low
@@ -22,10 +22,10 @@ returns-then-atom-low c =
     let e = coded c.in_ok-atom.field-0 in
     let h = c.in_ok-atom.ensures.same in
     ap Err c.refuse.ensures
-    ∙ series_refused layer.Book (member t c.args.place c.args.others.now) after_member (c.args.count - c.loop.counter) c.loop.low c.loop.at _ (omega arith)
+    ∙ series_refused layer.Book (member t c.args.place c.args.others.atoms.now) after_member (c.args.count - c.loop.counter) c.loop.low c.loop.at _ (omega arith)
     (elim c.then-atom-low.branch [
-      | then-atom-low-via-then-atom-low w ↦ too_low t c.args.place c.args.others.now c.loop.low c.loop.at e h (omega arith)
-      | then-atom-low-via-else-atom-low+then-is_some w ↦ among_others t c.args.place c.args.others.now c.loop.low c.loop.at e h (has_by c.args.others.now e.operand w.place_of.result w.place_of.ensures ∙ sym w.is_some.ensures ∙ w.if-is_some.true)
+      | then-atom-low-via-then-atom-low w ↦ too_low t c.args.place c.args.others.atoms.now c.loop.low c.loop.at e h (omega arith)
+      | then-atom-low-via-else-atom-low+then-is_some w ↦ among_others t c.args.place c.args.others.atoms.now c.loop.low c.loop.at e h (has_by c.args.others.atoms.now e.operand w.place_of.result w.place_of.ensures ∙ sym w.is_some.ensures ∙ w.if-is_some.true)
     ])
     ∙ c.loop.invariant
 
@@ -33,6 +33,6 @@ pub loop-preserved : goal.loop-preserved
 loop-preserved c =
     let t = table c.args.table.now in
     let e = coded c.in_ok-atom.field-0 in
-    series_turn layer.Book (member t c.args.place c.args.others.now) after_member c.args.count c.loop.counter c.loop.low c.loop.at e (c.loop.at + 1) (omega arith)
-    (member_goes t c.args.place c.args.others.now c.loop.low c.loop.at e c.in_ok-atom.ensures.same (omega arith) (has_by c.args.others.now e.operand c.place_of.result c.place_of.ensures ∙ sym c.is_some.ensures ∙ c.if-is_some.false))
+    series_turn layer.Book (member t c.args.place c.args.others.atoms.now) after_member c.args.count c.loop.counter c.loop.low c.loop.at e (c.loop.at + 1) (omega arith)
+    (member_goes t c.args.place c.args.others.atoms.now c.loop.low c.loop.at e c.in_ok-atom.ensures.same (omega arith) (has_by c.args.others.atoms.now e.operand c.place_of.result c.place_of.ensures ∙ sym c.is_some.ensures ∙ c.if-is_some.false))
     ∙ c.loop.invariant

@@ -11,8 +11,8 @@ slice_bounds-relevant-end c =
     let g = groups_inside (held b) b.formed b.table.numbered in
     sym (length-take-le b.table.sizes.relevant b.table.operands.now (omega arith))
 
-pub place_of-requires : goal.place_of-requires
-place_of-requires c = let b = c.args.self.now in relevant_rises (held b) b.formed b.table.numbered
+pub invariant_of-relevant : goal.invariant_of-relevant
+invariant_of-relevant c = let b = c.args.self.now in record { rises = relevant_rises (held b) b.formed b.table.numbered }
 
 pub map-requires : goal.map-requires
 map-requires c =

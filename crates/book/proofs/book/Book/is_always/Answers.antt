@@ -4,11 +4,11 @@ use Rattle.book.proofs.Atoms.{has_by}
 use Rattle.book.proofs.Grouped.{groups_inside, always_rises, always_is}
 use Rattle.book.proofs.book.Book.is_always.Goals as goal
 
-pub slice_bounds-place_of-end : goal.slice_bounds-place_of-end
-slice_bounds-place_of-end c = let b = c.args.self.now in omega (arith, groups_inside (held b) b.formed b.table.numbered)
+pub slice_bounds-always-end : goal.slice_bounds-always-end
+slice_bounds-always-end c = let b = c.args.self.now in omega (arith, groups_inside (held b) b.formed b.table.numbered)
 
-pub place_of-requires : goal.place_of-requires
-place_of-requires c = let b = c.args.self.now in always_rises (held b) b.formed b.table.numbered
+pub invariant_of-always : goal.invariant_of-always
+invariant_of-always c = let b = c.args.self.now in record { rises = always_rises (held b) b.formed b.table.numbered }
 
 pub returns : goal.returns
 returns c =
