@@ -1,8 +1,8 @@
 -- The order of names, by its test and by its meaning.
-use Rattle.std.proofs.Common.{◌≡◌, ℕ, ◌<◌, Bool, true, false, cond, not, eqb, ltb, ◌⊎◌, List, [], ◌∷◌, Some, sym, refl, ap, ◌∙◌, inl, inr, ⊎_elim, arith}
+use Rattle.std.proofs.Common.{◌≡◌, ℕ, ◌<◌, Bool, true, cond, eqb, ltb, ◌⊎◌, List, [], ◌∷◌, Some, sym, refl, ap, ◌∙◌, inl, inr, ⊎_elim, arith}
 use Rattle.std.specs.declared.cmp.Ordering.TheVariants.{Less, Equal, Greater}
 use Rattle.std.specs.Cmp.Lexicographic.{slice_cmp, slice_partial_cmp}
-use Rattle.std.specs.Ordering.{nat_cmp, is_lt, is_gt, is_ge, is_some_and}
+use Rattle.std.specs.Ordering.{nat_cmp, is_lt, is_gt, is_some_and}
 use Rattle.std.proofs.lemmas.Bool.Decides.{nat_tests}
 use Rattle.std.proofs.lemmas.Cmp.{same_from_slice_cmp, same_from_slice_cmp_tested}
 use Rattle.std.proofs.lemmas.Map.Lookups.{exact_bytes}
@@ -62,24 +62,18 @@ pub name_precedes : (m k : Name) → NameBefore m k → precedes (listed m) (lis
 name_precedes m k h = objects_precede (listed m) (listed k) h
 
 -- The comparisons of the code.
-not_not : (b : Bool) → not (not b) ≡ b
-not_not true = refl
-not_not false = refl
+pub less_precedes : (a b : List ℕ) (r : Bool) → r ≡ is_some_and is_lt (slice_partial_cmp (λ x y. Some (nat_cmp x y)) a b) → r ≡ precedes a b
+less_precedes = same_from_slice_cmp_tested nat_cmp is_lt precedes refl (λ _ _. refl) (λ _ _. refl) (λ x y xs ys o h. grind (arith, nat_tests))
 
-pub ge_precedes : (a b : List ℕ) (r s : Bool) → r ≡ is_some_and is_ge (slice_partial_cmp (λ x y. Some (nat_cmp x y)) a b) → r ≡ s → precedes a b ≡ not s
-ge_precedes a b r s e h =
-    let w = same_from_slice_cmp_tested nat_cmp is_ge (λ xs ys. not (precedes xs ys)) refl (λ _ _. refl) (λ _ _. refl) (λ x y xs ys o h. grind (arith, nat_tests)) a b r e in
-    sym (not_not (precedes a b)) ∙ ap not (sym w ∙ h)
+pub cmp_less : (a b : List ℕ) → Less ≡ slice_cmp nat_cmp a b → precedes a b ≡ true
+cmp_less a b h = sym (same_from_slice_cmp nat_cmp is_lt precedes refl (λ _ _. refl) (λ _ _. refl) (λ x y xs ys o h. grind (arith, nat_tests)) a b Less h)
 
-pub lt_precedes : (a b : List ℕ) → slice_cmp nat_cmp a b ≡ Less → precedes a b ≡ true
-lt_precedes a b h = sym (same_from_slice_cmp nat_cmp is_lt precedes refl (λ _ _. refl) (λ _ _. refl) (λ x y xs ys o h. grind (arith, nat_tests)) a b Less (sym h))
+pub cmp_greater : (a b : List ℕ) → Greater ≡ slice_cmp nat_cmp a b → precedes b a ≡ true
+cmp_greater a b h = sym (same_from_slice_cmp nat_cmp is_gt (λ xs ys. precedes ys xs) refl (λ _ _. refl) (λ _ _. refl) (λ x y xs ys o h. grind (arith, nat_tests)) a b Greater h)
 
-pub gt_precedes : (a b : List ℕ) → slice_cmp nat_cmp a b ≡ Greater → precedes b a ≡ true
-gt_precedes a b h = sym (same_from_slice_cmp nat_cmp is_gt (λ xs ys. precedes ys xs) refl (λ _ _. refl) (λ _ _. refl) (λ x y xs ys o h. grind (arith, nat_tests)) a b Greater (sym h))
-
-pub equal_same : (m k : Name) → slice_cmp nat_cmp (listed m) (listed k) ≡ Equal → m ≡ k
-equal_same m k h =
-    let e : listed m ≡ listed k = exact_bytes (listed m) (listed k) h in
+pub cmp_equal : (m k : Name) → Equal ≡ slice_cmp nat_cmp (listed m) (listed k) → m ≡ k
+cmp_equal m k h =
+    let e : listed m ≡ listed k = exact_bytes (listed m) (listed k) (sym h) in
     let p : m.operator ≡ k.operator = cc in
     let q : m.objects ≡ k.objects = cc in
     λ i. record { operator = p i; objects = q i }

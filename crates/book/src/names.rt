@@ -2,7 +2,7 @@
 ghost use Rattle.std.specs.Prelude.{◌≡◌, ◌+◌, ◌-◌, ◌<◌, ◌≤◌, [], length, IfOk};
 ghost use Rattle.std.specs.List.{between};
 ghost use Rattle.table.specs.Reading.{good};
-ghost use Rattle.book.specs.Reads.{objects, name, actions_in};
+ghost use Rattle.book.specs.Reads.{objects, precedes as comes_before, name, actions_in};
 ghost use Rattle.book.specs.Named.{name_in};
 ghost use Rattle.book.specs.Views.{table as table_in, answer};
 
@@ -29,6 +29,14 @@ pub(crate) fn check_objects(table: &BookTable, room: u32, at: usize) -> Result<u
     check_objects(table, room - 1, at + 1)
 }
 
+// Whether the list `a` comes before the list `b`: from the left, and before any longer one that it begins.
+#[tactic(auto, using(crate::proofs::Order::less_precedes))]
+fn precedes(a: &[u32], b: &[u32]) -> bool
+    ensures { result ≡ comes_before a.now b.now }
+{
+    a < b
+}
+
 // The name of the action at place `at`, which comes after the name `before`: the place after it.
 fn check_name(table: &BookTable, before: &[u32], at: usize) -> Result<usize, Fault>
     ensures same { result ≡ answer (name (table_in table.now) before.now at) }
@@ -37,7 +45,7 @@ fn check_name(table: &BookTable, before: &[u32], at: usize) -> Result<usize, Fau
 {
     let _ = head_at(table, Place::Action, 513, at)?;
     let end = check_objects(table, 4, at + 1)?;
-    if before >= &table.operands[at..end] {
+    if !precedes(before, &table.operands[at..end]) {
         return Err(refuse(Cause::NotRising, end - 1));
     }
     Ok(end)

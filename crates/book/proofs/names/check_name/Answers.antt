@@ -1,9 +1,8 @@
-use Rattle.std.proofs.Common.{Err, ap, ◌∙◌, arith}
+use Rattle.std.proofs.Common.{Err, sym, ap, ◌∙◌, arith}
 use Rattle.std.proofs.lemmas.Result.{err_from_is_err_and}
 use Rattle.table.proofs.Answering.{made_refused}
 use Rattle.book.specs.Views.{table, coded}
 use Rattle.book.proofs.Naming.{reached, objects_refused, name_good, name_bad, name_is}
-use Rattle.book.proofs.Order.{ge_precedes}
 use Rattle.book.proofs.names.check_name.Goals as goal
 
 pub returns-in_err-end : goal.returns-in_err-end
@@ -16,18 +15,18 @@ returns-in_err-end c =
       text = made_refused _ _ _ e;
     }
 
-pub slice_bounds-ge-count : goal.slice_bounds-ge-count
-slice_bounds-ge-count c =
+pub slice_bounds-precedes-count : goal.slice_bounds-precedes-count
+slice_bounds-precedes-count c =
     let r = reached (table c.args.table.now) c.args.table.now.numbered c.args.before.now c.args.at _ c.in_ok-end.end c.in_ok-head_at.ensures.inside c.in_ok-head_at.ensures.same c.in_ok-end.ensures in
     omega (arith, r.0, r.1)
 
-pub slice_bounds-ge-start : goal.slice_bounds-ge-start
-slice_bounds-ge-start c =
+pub slice_bounds-precedes-start : goal.slice_bounds-precedes-start
+slice_bounds-precedes-start c =
     let r = reached (table c.args.table.now) c.args.table.now.numbered c.args.before.now c.args.at _ c.in_ok-end.end c.in_ok-head_at.ensures.inside c.in_ok-head_at.ensures.same c.in_ok-end.ensures in
     omega (arith, r.0, r.1)
 
-pub slice_bounds-ge-end : goal.slice_bounds-ge-end
-slice_bounds-ge-end c =
+pub slice_bounds-precedes-end : goal.slice_bounds-precedes-end
+slice_bounds-precedes-end c =
     let r = reached (table c.args.table.now) c.args.table.now.numbered c.args.before.now c.args.at _ c.in_ok-end.end c.in_ok-head_at.ensures.inside c.in_ok-head_at.ensures.same c.in_ok-end.ensures in
     omega (arith, r.0, r.1, c.args.table.now.numbered)
 
@@ -36,10 +35,10 @@ overflow_sub-end c =
     let r = reached (table c.args.table.now) c.args.table.now.numbered c.args.before.now c.args.at _ c.in_ok-end.end c.in_ok-head_at.ensures.inside c.in_ok-head_at.ensures.same c.in_ok-end.ensures in
     omega (arith, r.0, r.1)
 
-pub returns-then-ge : goal.returns-then-ge
-returns-then-ge c =
+pub returns-then-not-precedes : goal.returns-then-not-precedes
+returns-then-not-precedes c =
     record {
-      same = ap Err c.refuse.ensures ∙ name_bad (table c.args.table.now) c.args.table.now.numbered c.args.before.now c.args.at _ c.in_ok-end.end c.in_ok-head_at.ensures.inside c.in_ok-head_at.ensures.same c.in_ok-end.ensures (ge_precedes c.args.before.now _ c.ge.result _ c.ge.ensures c.if-ge.true);
+      same = ap Err c.refuse.ensures ∙ name_bad (table c.args.table.now) c.args.table.now.numbered c.args.before.now c.args.at _ c.in_ok-end.end c.in_ok-head_at.ensures.inside c.in_ok-head_at.ensures.same c.in_ok-end.ensures (sym c.if-not-precedes.ensures);
       inside = tt;
       text = tt;
     }
@@ -52,7 +51,7 @@ returns c =
     let i = c.in_ok-head_at.ensures.inside in
     let s = c.in_ok-head_at.ensures.same in
     let o = c.in_ok-end.ensures in
-    let p = ge_precedes c.args.before.now _ c.ge.result _ c.ge.ensures c.if-ge.false in
+    let p = sym c.if-not-precedes.ensures in
     record {
       same = name_good t n b c.args.at _ c.in_ok-end.end i s o p;
       inside = reached t n b c.args.at _ c.in_ok-end.end i s o;

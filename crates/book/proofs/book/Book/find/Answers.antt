@@ -4,7 +4,7 @@ use Rattle.model.specs.Trees.{Name}
 use Rattle.book.specs.Reads.{precedes, listed}
 use Rattle.book.specs.Held.{held}
 use Rattle.book.specs.Named.{name_in, SomeBody, body_end}
-use Rattle.book.proofs.Order.{lt_precedes, gt_precedes, equal_same}
+use Rattle.book.proofs.Order.{cmp_less, cmp_greater, cmp_equal}
 use Rattle.book.proofs.Places.{some_action, some_body, next_action, name_inside, name_here}
 use Rattle.book.proofs.Searching.{nth, passed_more, passed_all, passed_by, found}
 use Rattle.book.proofs.book.Book.find.Goals as goal
@@ -30,7 +30,7 @@ pub returns-in-Equal : goal.returns-in-Equal
 returns-in-Equal c =
     let b = c.args.self.now in
     let m = name_of c.args.name in
-    let e = sym (the_name ((goal.at.returns-in-Equal c).After-cmp)) ∙ equal_same (name_of c.name_at-found.result) m (sym c.cmp.ensures ∙ c.in-Equal.is) in
+    let e = sym (the_name ((goal.at.returns-in-Equal c).After-cmp)) ∙ cmp_equal (name_of c.name_at-found.result) m c.in-Equal.ensures in
     let w = found (held b) b.formed b.table.numbered m c.loop-k.k (omega arith) e in
     record { number = w.number; exact = w.exact }
 
@@ -39,7 +39,7 @@ returns-in-Greater c =
     let b = c.args.self.now in
     let m = name_of c.args.name in
     let e = the_name ((goal.at.returns-in-Greater c).After-cmp) in
-    let p = ap (λ (n : Name). precedes (listed m) (listed n)) (sym e) ∙ gt_precedes (listed (name_of c.name_at-found.result)) (listed m) (sym c.cmp.ensures ∙ c.in-Greater.is) in
+    let p = ap (λ (n : Name). precedes (listed m) (listed n)) (sym e) ∙ cmp_greater (listed (name_of c.name_at-found.result)) (listed m) c.in-Greater.ensures in
     let w = passed_by (held b) b.formed b.table.numbered m c.loop-k.k (omega arith) c.loop-k.invariant.1 p in
     record { number = w.number; exact = w.exact }
 
@@ -53,7 +53,7 @@ loop-k-preserved c =
     let b = c.args.self.now in
     let m = name_of c.args.name in
     let e = the_name ((goal.at.loop-k-preserved c).After-cmp) in
-    let p = ap (λ (n : Name). precedes (listed n) (listed m)) (sym e) ∙ lt_precedes (listed (name_of c.name_at-found.result)) (listed m) (sym c.cmp.ensures ∙ c.in-Less.is) in (
+    let p = ap (λ (n : Name). precedes (listed n) (listed m)) (sym e) ∙ cmp_less (listed (name_of c.name_at-found.result)) (listed m) c.in-Less.ensures in (
       c.end_of_body-at.ensures ∙ ap (body_end (held b)) c.end_of_name-end.ensures ∙ next_action (held b) b.formed c.loop-k.k c.loop-k.at (omega arith) c.loop-k.invariant.0,
       passed_more (held b) b.formed b.table.numbered m c.loop-k.k c.loop-k.invariant.1 p,
     )
