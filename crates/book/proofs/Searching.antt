@@ -12,15 +12,10 @@ use Rattle.book.specs.Tables.{Table}
 use Rattle.book.specs.Reads.{precedes, listed, actions_place}
 use Rattle.book.specs.Opens.{accepted, book_of}
 use Rattle.book.specs.Finds.{names_of, number_from, Tells}
-use Rattle.book.proofs.Order.{first_same, precedes_trans, name_precedes}
+use Rattle.book.proofs.Order.{not_before_itself, precedes_trans, name_precedes}
 use Rattle.book.proofs.Atoms.{rises_by}
 use Rattle.book.proofs.Standing.{stands, opened}
 use Rattle.book.proofs.WellFormed.{names_rise}
-
--- The order of names.
-not_before_itself : (a : List ℕ) → precedes a a ≡ false
-not_before_itself [] = refl
-not_before_itself (x ∷ a) = first_same x x (precedes a a) refl ∙ not_before_itself a
 
 -- a name is not the same as one that comes before it, or after it
 apart : (m k : Name) → precedes (listed m) (listed k) ≡ true → same_name m k ≡ false

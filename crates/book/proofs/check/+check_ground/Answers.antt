@@ -1,17 +1,17 @@
-use Rattle.std.proofs.Common.{◌+◌, ◌-◌, Err, sym, ap, ◌∙◌, arith}
-use Rattle.std.proofs.lemmas.Result.{err_from_is_err_and}
+use Rattle.std.proofs.Common.{◌+◌, ◌-◌, sym, ◌∙◌, arith}
 use Rattle.fault.specs.declared.Layer.TheVariants as layer
 use Rattle.table.proofs.Answering.{many_refused, many_turn, many_over}
 use Rattle.book.specs.Reads.{ground}
 use Rattle.book.specs.Views.{table, coded}
+use Rattle.book.proofs.Heading.{handed_back}
 use Rattle.book.proofs.Parts.{ground_refused, ground_goes, after_not, after_junction, after_leaf}
 use Rattle.book.proofs.check.+check_ground.Goals as goal
 
 pub returns-in_err-head : goal.returns-in_err-head
 returns-in_err-head d c =
     let t = table c.args.table.now in
-    let p = err_from_is_err_and c.from_residual.result c.from_residual.ensures.1 in
-    p.1 ∙ ap Err p.2 ∙ ground_refused t c.args.levels c.args.at c.in_err-head.field-0.0 c.in_err-head.ensures.same
+    handed_back c.from_residual.result _ c.from_residual.ensures.1
+    ∙ ground_refused t c.args.levels c.args.at c.in_err-head.field-0.0 c.in_err-head.ensures.same
 
 pub returns-in-Not : goal.returns-in-Not
 returns-in-Not d c =
@@ -27,8 +27,7 @@ returns-in_err-next-in-And d c =
     let t = table c.args.table.now in
     let r = ground t (c.args.levels - 1) in
     let h = c.in_ok-head.head in
-    let p = err_from_is_err_and c.from_residual-in_err-next-in-And.result c.from_residual-in_err-next-in-And.ensures.1 in
-    p.1 ∙ ap Err p.2
+    handed_back c.from_residual-in_err-next-in-And.result _ c.from_residual-in_err-next-in-And.ensures.1
     ∙ many_refused layer.Book r (h.operand - c.loop.counter) c.loop.next c.in_err-next-in-And.field-0.0 (omega arith) c.in_err-next-in-And.ensures
     ∙ c.loop.invariant
     ∙ after_junction r h.kind h.operand (c.args.at + 1) c.in-And.is

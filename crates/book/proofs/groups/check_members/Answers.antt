@@ -1,9 +1,9 @@
 use Rattle.std.proofs.Common.{◌+◌, ◌-◌, Err, sym, ap, ◌∙◌, arith}
-use Rattle.std.proofs.lemmas.Result.{err_from_is_err_and}
 use Rattle.fault.specs.declared.Layer.TheVariants as layer
 use Rattle.table.proofs.Answering.{series_refused, series_turn}
 use Rattle.book.specs.Groups.{member, after_member}
 use Rattle.book.specs.Views.{table, coded}
+use Rattle.book.proofs.Heading.{handed_back}
 use Rattle.book.proofs.Atoms.{has_by, member_refused, too_low, among_others, member_goes}
 use Rattle.book.proofs.groups.check_members.Goals as goal
 use Rattle.book.proofs.groups.check_members.Goals.{then-atom-low-via-then-atom-low, then-atom-low-via-else-atom-low+then-is_some}
@@ -11,8 +11,7 @@ use Rattle.book.proofs.groups.check_members.Goals.{then-atom-low-via-then-atom-l
 pub returns-in_err-atom : goal.returns-in_err-atom
 returns-in_err-atom c =
     let t = table c.args.table.now in
-    let p = err_from_is_err_and c.from_residual.result c.from_residual.ensures.1 in
-    p.1 ∙ ap Err p.2
+    handed_back c.from_residual.result _ c.from_residual.ensures.1
     ∙ series_refused layer.Book (member t c.args.place c.args.others.atoms.now) after_member (c.args.count - c.loop.counter) c.loop.low c.loop.at c.in_err-atom.field-0.0 (omega arith) (member_refused t c.args.place c.args.others.atoms.now c.loop.low c.loop.at c.in_err-atom.field-0.0 c.in_err-atom.ensures.same)
     ∙ c.loop.invariant
 

@@ -1,11 +1,11 @@
-use Rattle.std.proofs.Common.{◌+◌, ◌-◌, ◌<◌, length, Err, sym, ap, ◌∙◌, arith}
-use Rattle.std.proofs.lemmas.Result.{err_from_is_err_and}
+use Rattle.std.proofs.Common.{◌+◌, ◌-◌, ◌<◌, length, sym, ap, ◌∙◌, arith}
 use Rattle.fault.specs.declared.Layer.TheVariants as layer
 use Rattle.table.specs.Reading.{series}
 use Rattle.table.proofs.Answering.{series_over}
 use Rattle.book.specs.Reads.{action, after_action}
 use Rattle.book.specs.Named.{name_in}
 use Rattle.book.specs.Views.{table, answer}
+use Rattle.book.proofs.Heading.{handed_back}
 use Rattle.book.proofs.Naming.{listed_in, name_refused, precondition_refused, effect_refused, action_turn}
 use Rattle.book.proofs.names.check_actions.Goals as goal
 
@@ -13,8 +13,7 @@ pub returns-in_err-named : goal.returns-in_err-named
 returns-in_err-named c =
     let t = table c.args.table.now in
     let b = c.loop.before.now in
-    let p = err_from_is_err_and c.from_residual.result c.from_residual.ensures.1 in
-    p.1 ∙ ap Err p.2
+    handed_back c.from_residual.result _ c.from_residual.ensures.1
     ∙ name_refused t t.actions c.loop.counter b c.loop.at (omega arith) c.in_err-named.field-0.0 c.in_err-named.ensures.same
     ∙ c.loop.invariant
 
@@ -23,8 +22,7 @@ returns-in_err-judged c =
     let t = table c.args.table.now in
     let b = c.loop.before.now in
     let j = c.in_ok-named.named in
-    let p = err_from_is_err_and c.from_residual-in_err-judged.result c.from_residual-in_err-judged.ensures.1 in
-    p.1 ∙ ap Err p.2
+    handed_back c.from_residual-in_err-judged.result _ c.from_residual-in_err-judged.ensures.1
     ∙ precondition_refused t t.actions c.loop.counter b c.loop.at (omega arith) (name_in t.operands c.loop.at j) j c.in_ok-named.ensures.text c.in_err-judged.field-0.0 c.in_err-judged.ensures
     ∙ c.loop.invariant
 
@@ -33,8 +31,7 @@ returns-in_err-at c =
     let t = table c.args.table.now in
     let b = c.loop.before.now in
     let j = c.in_ok-named.named in
-    let p = err_from_is_err_and c.from_residual-in_err-at.result c.from_residual-in_err-at.ensures.1 in
-    p.1 ∙ ap Err p.2
+    handed_back c.from_residual-in_err-at.result _ c.from_residual-in_err-at.ensures.1
     ∙ effect_refused t t.actions c.loop.counter b c.loop.at (omega arith) (name_in t.operands c.loop.at j) j c.in_ok-named.ensures.text c.in_ok-judged.judged c.in_ok-judged.ensures c.in_err-at.field-0.0 c.in_err-at.ensures
     ∙ c.loop.invariant
 

@@ -1,14 +1,13 @@
 use Rattle.std.proofs.Common.{Err, sym, ap, ◌∙◌, arith}
-use Rattle.std.proofs.lemmas.Result.{err_from_is_err_and}
 use Rattle.table.proofs.Answering.{made_refused}
 use Rattle.book.specs.Views.{table, coded}
+use Rattle.book.proofs.Heading.{handed_back}
 use Rattle.book.proofs.Naming.{reached, objects_refused, name_good, name_bad, name_is}
 use Rattle.book.proofs.names.check_name.Goals as goal
 
 pub returns-in_err-end : goal.returns-in_err-end
 returns-in_err-end c =
-    let p = err_from_is_err_and c.from_residual-in_err-end.result c.from_residual-in_err-end.ensures.1 in
-    let e = p.1 ∙ ap Err p.2 in
+    let e = handed_back c.from_residual-in_err-end.result _ c.from_residual-in_err-end.ensures.1 in
     record {
       same = e ∙ objects_refused (table c.args.table.now) c.args.before.now c.args.at (coded c.in_ok-head_at.field-0) c.in_ok-head_at.ensures.same c.in_err-end.field-0.0 c.in_err-end.ensures;
       inside = made_refused _ _ _ e;
