@@ -40,6 +40,7 @@ fn check_literals(table: &BookTable, at: usize) -> Result<usize, Fault>
         return Err(refuse(Cause::OperandOutOfRange, at));
     }
     let mut next = at + 1;
+    // a loop, as in `check_ground`, where a fold is no plainer
     for _ in 0..head.operand {
         next = check_literal(table, next)?;
     }
@@ -66,6 +67,7 @@ pub(crate) fn check_effect(table: &BookTable, at: usize) -> Result<usize, Fault>
 {
     let head = head_at(table, Place::Clauses, 513, at)?;
     let mut next = at + 1;
+    // a loop, as in `check_ground`, where a fold is no plainer
     for _ in 0..head.operand {
         next = check_clause(table, next)?;
     }

@@ -57,6 +57,7 @@ pub(crate) fn check_actions(table: &BookTable, from: usize) -> Result<usize, Fau
 {
     let mut at = from;
     let mut before: &[u32] = &[];
+    // a fold would carry both variables as a pair, and is no plainer
     for _ in 0..table.sizes.actions {
         let named = check_name(table, before, at)?;
         before = &table.operands[at..named];

@@ -1,9 +1,14 @@
-use Rattle.std.proofs.Common.{Err, sym, ap, ◌∙◌, arith}
+use Rattle.std.proofs.Common.{◌<◌, ◌≤◌, Err, sym, ap, ◌∙◌, arith}
 use Rattle.table.proofs.Answering.{made_refused}
 use Rattle.book.specs.Views.{table, coded}
 use Rattle.book.proofs.Heading.{handed_back}
 use Rattle.book.proofs.Naming.{reached, objects_refused, name_good, name_bad, name_is}
 use Rattle.book.proofs.names.check_name.Goals as goal
+use Rattle.book.proofs.names.check_name.Goals.{In_ok-end}
+
+-- the name ends after it begins, and inside the table
+forth : (c : In_ok-end) → (c.args.at < c.in_ok-end.end) × (c.in_ok-end.end ≤ c.args.table.now.sizes.entries)
+forth c = reached (table c.args.table.now) c.args.table.now.numbered c.args.before.now c.args.at _ c.in_ok-end.end c.in_ok-head_at.ensures.inside c.in_ok-head_at.ensures.same c.in_ok-end.ensures
 
 pub returns-in_err-end : goal.returns-in_err-end
 returns-in_err-end c =
@@ -15,24 +20,16 @@ returns-in_err-end c =
     }
 
 pub slice_bounds-precedes-count : goal.slice_bounds-precedes-count
-slice_bounds-precedes-count c =
-    let r = reached (table c.args.table.now) c.args.table.now.numbered c.args.before.now c.args.at _ c.in_ok-end.end c.in_ok-head_at.ensures.inside c.in_ok-head_at.ensures.same c.in_ok-end.ensures in
-    omega (arith, r.0, r.1)
+slice_bounds-precedes-count c = let r = forth ((goal.at.slice_bounds-precedes-count c).In_ok-end) in omega (arith, r.0)
 
 pub slice_bounds-precedes-start : goal.slice_bounds-precedes-start
-slice_bounds-precedes-start c =
-    let r = reached (table c.args.table.now) c.args.table.now.numbered c.args.before.now c.args.at _ c.in_ok-end.end c.in_ok-head_at.ensures.inside c.in_ok-head_at.ensures.same c.in_ok-end.ensures in
-    omega (arith, r.0, r.1)
+slice_bounds-precedes-start c = let r = forth ((goal.at.slice_bounds-precedes-start c).In_ok-end) in omega (arith, r.0)
 
 pub slice_bounds-precedes-end : goal.slice_bounds-precedes-end
-slice_bounds-precedes-end c =
-    let r = reached (table c.args.table.now) c.args.table.now.numbered c.args.before.now c.args.at _ c.in_ok-end.end c.in_ok-head_at.ensures.inside c.in_ok-head_at.ensures.same c.in_ok-end.ensures in
-    omega (arith, r.0, r.1, c.args.table.now.numbered)
+slice_bounds-precedes-end c = let r = forth ((goal.at.slice_bounds-precedes-end c).In_ok-end) in omega (arith, r.1, c.args.table.now.numbered)
 
 pub overflow_sub-end : goal.overflow_sub-end
-overflow_sub-end c =
-    let r = reached (table c.args.table.now) c.args.table.now.numbered c.args.before.now c.args.at _ c.in_ok-end.end c.in_ok-head_at.ensures.inside c.in_ok-head_at.ensures.same c.in_ok-end.ensures in
-    omega (arith, r.0, r.1)
+overflow_sub-end c = let r = forth ((goal.at.overflow_sub-end c).In_ok-end) in omega (arith, r.0)
 
 pub returns-then-not-precedes : goal.returns-then-not-precedes
 returns-then-not-precedes c =
@@ -53,6 +50,6 @@ returns c =
     let p = sym c.if-not-precedes.ensures in
     record {
       same = name_good t n b c.args.at _ c.in_ok-end.end i s o p;
-      inside = reached t n b c.args.at _ c.in_ok-end.end i s o;
+      inside = forth ((goal.at.returns c).In_ok-end);
       text = name_is t n b c.args.at _ c.in_ok-end.end i s o p;
     }
