@@ -1,21 +1,26 @@
 -- Atoms in groups that rise.
-use Rattle.std.proofs.Common.{◌≡◌, ℕ, zero, suc, ◌+◌, ◌-◌, ◌<◌, ◌≤◌, Bool, true, false, cond, not, ◌&&◌, eqb, leb, List, [], ◌∷◌, length, get_or, take, Some, None, Ok, Err, sym, refl, ap, ◌∙◌, ⊎_elim, arith, eq-eqb, ne_eqb, le-leb}
+use Rattle.std.proofs.Common.{◌≡◌, ℕ, zero, suc, ◌+◌, ◌<◌, ◌≤◌, Bool, true, false, cond, not, ◌&&◌, eqb, leb, List, [], ◌∷◌, length, get_or, take, Some, None, Ok, Err, Option, Result, sym, refl, ap, ◌∙◌, ⊎_elim, arith, eq-eqb, ne_eqb, le-leb}
 use borrow.Author.Tests.{lt-leb}
-use Rattle.std.specs.List.{between}
-use Rattle.std.proofs.lemmas.Bool.{or_left, or_right, or_from, cases_lt}
+use Rattle.std.specs.List.Sorted.{IsBinarySearchResult}
+use Rattle.std.specs.Option.{is_some}
+use Rattle.std.specs.Ordering.{nat_cmp}
+use Rattle.std.specs.Result.{result_ok}
+use Rattle.std.proofs.lemmas.Bool.{and_left, and_right, and_from, or_left, or_right, or_from, cases_lt}
+use Rattle.std.proofs.lemmas.List.Sorted.{searched}
 use Rattle.fault.specs.declared.Fault.{Fault}
 use Rattle.fault.specs.declared.Layer.TheVariants as layer
 use Rattle.fault.specs.Faults.{refusal}
 use Rattle.table.specs.declared.places.Place.{Place}
 use Rattle.table.specs.declared.places.Place.TheVariants as place
-use Rattle.table.specs.Reading.{Entry, Out, bad, good, then, unless}
+use Rattle.table.specs.Reading.{Entry, Out, bad, good, then, unless, series}
+use Rattle.table.proofs.Answering.{head_refused, handed_on}
 use Rattle.model.specs.Lists.{has, position}
 use Rattle.model.specs.Books.{Start}
 use Rattle.model.specs.Forming.{Each}
 use Rattle.model.specs.Opening.{RisingBy, Rising}
 use Rattle.book.specs.Tables.{Table, most_levels, head}
-use Rattle.book.specs.Reads.{start, is_listed, always_true}
-use Rattle.book.specs.Groups.{Rises, rising_entry}
+use Rattle.book.specs.Reads.{start, after_start, starts_in, is_listed, always_true, after_atom, always_in}
+use Rattle.book.specs.Groups.{Rises, member, members_in}
 use Rattle.book.specs.Views.{answer, heading}
 use Rattle.book.proofs.Heading.{headed}
 
@@ -36,97 +41,101 @@ position_at (y ∷ ys) x (suc k) h e n =
     ap (λ b. cond b 0 (suc (position x ys))) (ne_eqb x y (λ q. n 0 (omega arith) (sym q)))
     ∙ ap suc (position_at ys x k (omega arith) e (λ j l q. n (suc j) (omega arith) q))
 
--- the answer of a search for x in a list that rises
-pub found_at : (xs : List ℕ) → Rises xs → (x k : ℕ) → k < length xs → get_or xs k 0 ≡ x → Some k ≡ cond (has x xs) (Some (position x xs)) None
+-- a binary search for x in a list that rises
+found_at : (xs : List ℕ) → Rises xs → (x k : ℕ) → k < length xs → get_or xs k 0 ≡ x → Some k ≡ cond (has x xs) (Some (position x xs)) None
 found_at xs r x k h e =
     let p = position_at xs x k h e (λ j l q. omega (arith, r j k l h, e, q)) in
     ap Some (sym p) ∙ sym (ap (λ b. cond b (Some (position x xs)) None) (has_at xs x k h e))
 
-pub not_found : (xs : List ℕ) (x low high : ℕ) → high ≤ low → ((k : ℕ) → k < low → get_or xs k 0 < x) → ((k : ℕ) → high ≤ k → k < length xs → x < get_or xs k 0) → None ≡ cond (has x xs) (Some (position x xs)) None
-not_found xs x low high h below beyond =
-    sym (ap (λ b. cond b (Some (position x xs)) None) (has_nowhere xs x (λ k l e. ⊎_elim (λ f. omega (arith, below k f, e)) (λ f. omega (arith, beyond k (omega arith) l, e)) (cases_lt k low))))
+not_found : (xs : List ℕ) (x i : ℕ) → ((k : ℕ) → k < i → get_or xs k 0 < x) → ((k : ℕ) → i ≤ k → k < length xs → x < get_or xs k 0) → None ≡ cond (has x xs) (Some (position x xs)) None
+not_found xs x i below beyond =
+    sym (ap (λ b. cond b (Some (position x xs)) None) (has_nowhere xs x (λ k l e. ⊎_elim (λ f. omega (arith, below k f, e)) (λ f. omega (arith, beyond k f l, e)) (cases_lt k i))))
 
--- An entry of a group, from what the code was told.
-module _ (low i : ℕ) where
-  abbrev above : Entry → ℕ → Out Entry
-  above e j = unless (leb low e.operand) 8 i (good e j)
+never_falls : (xs : List ℕ) → Rises xs → (i j : ℕ) → i ≤ j → j < length xs → get_or xs i 0 ≤ get_or xs j 0
+never_falls xs r i j l h = ⊎_elim (λ f. omega (arith, r i j f h)) (λ f. let z : i ≡ j = omega arith in omega (arith, ap (λ k. get_or xs k 0) z)) (cases_lt i j)
 
-  refused_by : {A : Type 0} (b : Bool) (x : Entry) (j : ℕ) (f : Fault) (o : Out A) → (b ≡ false → o ≡ bad 8 i) → Err f ≡ heading (unless b 8 i (good x j)) → Err f ≡ answer o
-  refused_by true x j f o h e = absurd (let z : ◌≡◌ {A = ℕ} 0 1 = cc in omega arith)
-  refused_by false x j f o h e = let w : f ≡ refusal 8 layer.Book i = cc in ap Err w ∙ sym (ap (λ p. answer p) (h refl))
+pub place_found : (xs : List ℕ) → Rises xs → (x : ℕ) (r : Result ℕ ℕ) → IsBinarySearchResult (λ y. nat_cmp y x) xs r → result_ok r ≡ cond (has x xs) (Some (position x xs)) None
+place_found xs rise x (Ok k) h = let w = searched xs x (Ok k) h (never_falls xs rise) in found_at xs rise x k w.0 w.1
+place_found xs rise x (Err k) h = let w = searched xs x (Err k) h (never_falls xs rise) in not_found xs x k w.1 w.2
 
-  entry_refused : {A : Type 0} (o : Out Entry) (g : Entry → ℕ → Out A) (f : Fault) → ((e : Entry) (j : ℕ) → leb low e.operand ≡ false → g e j ≡ bad 8 i) → Err f ≡ heading (then o above) → Err f ≡ answer (then o g)
-  entry_refused (bad n q) g f h e = let w : f ≡ refusal n layer.Book q = cc in ap Err w
-  entry_refused (good x j) g f h e = refused_by (leb low x.operand) x j f (g x j) (h x j) e
+-- whether the search has found it
+has_place : (b : Bool) (k : ℕ) → b ≡ is_some (cond b (Some k) None)
+has_place true k = refl
+has_place false k = refl
 
-  told_by : (b : Bool) (x e : Entry) (j : ℕ) → Ok e ≡ heading (unless b 8 i (good x j)) → (x ≡ e) × (b ≡ true)
-  told_by true x e j h = (cc, refl)
-  told_by false x e j h = absurd (let z : ◌≡◌ {A = ℕ} 0 1 = cc in omega arith)
+pub has_by : (xs : List ℕ) (x : ℕ) (r : Option ℕ) → r ≡ cond (has x xs) (Some (position x xs)) None → has x xs ≡ is_some r
+has_by xs x r e = has_place (has x xs) (position x xs) ∙ ap is_some (sym e)
 
-  entry_told : (o : Out Entry) (e : Entry) → Ok e ≡ heading (then o above) → (Ok e ≡ heading o) × (leb low e.operand ≡ true)
-  entry_told (bad n q) e h = absurd (let z : ◌≡◌ {A = ℕ} 0 1 = cc in omega arith)
-  entry_told (good x j) e h =
-      let w = told_by (leb low x.operand) x e j h in
-      (ap Ok (sym w.0), ap (λ (y : Entry). leb low y.operand) (sym w.0) ∙ w.1)
+-- An atom of a group, from its head.
+module _ (t : Table) (p : Place) (others : List ℕ) (low i : ℕ) where
+  abbrev as_member : Entry → ℕ → Out Entry
+  as_member e j = unless (leb low e.operand && not (has e.operand others)) 8 i (good e j)
 
--- An atom that starts true or false.
-module _ (t : Table) (low i : ℕ) where
-  abbrev made_start : Entry → Start
-  made_start e = record { atom = e.operand; starts = eqb e.kind 19 }
-
-  abbrev to_start : Entry → ℕ → Out Start
-  to_start e j = unless (leb low e.operand) 8 i (good (made_start e) j)
-
-  pub start_refused : (f : Fault) → Err f ≡ heading (rising_entry t place.Relevant low i) → Err f ≡ answer (start t low i)
-  start_refused f h = entry_refused low i (head t place.Relevant most_levels i) to_start f (λ e j l. ap (λ b. unless b 8 i (good (made_start e) j)) l) h
-
-  pub start_goes : (e : Entry) → Ok e ≡ heading (rising_entry t place.Relevant low i) → start t low i ≡ good (made_start e) (i + 1)
-  start_goes e h =
-      let w = entry_told low i (head t place.Relevant most_levels i) e h in
-      ap (λ o. then o to_start) (headed t place.Relevant most_levels i e w.0) ∙ ap (λ b. unless b 8 i (good (made_start e) (i + 1))) w.1
-
--- An atom that is always true.
-module _ (t : Table) (low i : ℕ) where
-  abbrev to_always : Entry → ℕ → Out ℕ
-  to_always e j = unless (leb low e.operand && not (is_listed t e.operand)) 8 i (good e.operand j)
-
-  pub always_refused : (f : Fault) → Err f ≡ heading (rising_entry t place.Always low i) → Err f ≡ answer (always_true t low i)
-  always_refused f h = entry_refused low i (head t place.Always most_levels i) to_always f (λ e j l. ap (λ b. unless (b && not (is_listed t e.operand)) 8 i (good e.operand j)) l) h
-
-  module _ (e : Entry) (h : Ok e ≡ heading (rising_entry t place.Always low i)) where
-    always_told : always_true t low i ≡ unless (not (is_listed t e.operand)) 8 i (good e.operand (i + 1))
-    always_told =
-        let w = entry_told low i (head t place.Always most_levels i) e h in
-        ap (λ o. then o to_always) (headed t place.Always most_levels i e w.0) ∙ ap (λ b. unless (b && not (is_listed t e.operand)) 8 i (good e.operand (i + 1))) w.1
-
-    pub always_listed : is_listed t e.operand ≡ true → Err (refusal 8 layer.Book i) ≡ answer (always_true t low i)
-    always_listed l = sym (ap (λ (o : Out ℕ). answer o) (always_told ∙ ap (λ b. unless (not b) 8 i (good e.operand (i + 1))) l))
-
-    pub always_goes : is_listed t e.operand ≡ false → always_true t low i ≡ good e.operand (i + 1)
-    always_goes l = always_told ∙ ap (λ b. unless (not b) 8 i (good e.operand (i + 1))) l
-
--- An entry of either group, from its head.
-module _ (t : Table) (p : Place) (low i : ℕ) where
-  head_bad : (o : Out Entry) (f : Fault) → Err f ≡ heading o → Err f ≡ heading (then o (above low i))
-  head_bad (bad n q) f h = h
-  head_bad (good x j) f h = absurd (let z : ◌≡◌ {A = ℕ} 0 1 = cc in omega arith)
-
-  pub head_refuses : (f : Fault) → Err f ≡ heading (head t p most_levels i) → Err f ≡ heading (rising_entry t p low i)
-  head_refuses f h = head_bad (head t p most_levels i) f h
+  pub member_refused : (f : Fault) → Err f ≡ heading (head t p most_levels i) → Err f ≡ answer (member t p others low i)
+  member_refused f h = head_refused layer.Book (head t p most_levels i) as_member f h
 
   module _ (e : Entry) (h : Ok e ≡ heading (head t p most_levels i)) where
-    entry_is : rising_entry t p low i ≡ above low i e (i + 1)
-    entry_is = ap (λ o. then o (above low i)) (headed t p most_levels i e h)
+    member_is : member t p others low i ≡ as_member e (i + 1)
+    member_is = ap (λ o. then o as_member) (headed t p most_levels i e h)
 
-    pub too_low : e.operand < low → Err (refusal 8 layer.Book i) ≡ heading (rising_entry t p low i)
-    too_low l = sym (ap heading (entry_is ∙ ap (λ b. unless b 8 i (good e (i + 1))) (lt-leb low e.operand l)))
+    pub too_low : e.operand < low → Err (refusal 8 layer.Book i) ≡ answer (member t p others low i)
+    too_low l = sym (ap (λ (o : Out Entry). answer o) (member_is ∙ ap (λ b. unless b 8 i (good e (i + 1))) (and_left (leb low e.operand) (not (has e.operand others)) (lt-leb low e.operand l))))
 
-    pub high_enough : low ≤ e.operand → Ok e ≡ heading (rising_entry t p low i)
-    high_enough l = sym (ap heading (entry_is ∙ ap (λ b. unless b 8 i (good e (i + 1))) (le-leb low e.operand l)))
+    pub among_others : has e.operand others ≡ true → Err (refusal 8 layer.Book i) ≡ answer (member t p others low i)
+    among_others l =
+        sym (ap (λ (o : Out Entry). answer o) (member_is ∙ ap (λ b. unless b 8 i (good e (i + 1))) (and_right (leb low e.operand) (not (has e.operand others)) (ap not l))))
 
--- the first r of a list, as the code takes them
-pub from_first : (r : ℕ) (xs : List ℕ) → between 0 r xs ≡ take r xs
-from_first r xs = let n : r - 0 ≡ r = omega arith in ap (λ m. take m xs) n
+    pub member_goes : low ≤ e.operand → has e.operand others ≡ false → member t p others low i ≡ good e (i + 1)
+    member_goes l n = member_is ∙ ap (λ b. unless b 8 i (good e (i + 1))) (and_from (leb low e.operand) (not (has e.operand others)) (le-leb low e.operand l) (ap not n))
+
+-- Other things made of what is read leave the answer as it is.
+module _ {A B S : Type 0} (read : S → ℕ → Out A) (f : A → B) (made : S → ℕ → Out B) (next : S → B → S)
+    (same : (s : S) (i : ℕ) → made s i ≡ then (read s i) (λ a j. good (f a) j)) where
+  abbrev rest_read : ℕ → S → A → ℕ → Out (List A)
+  rest_read m s a j = then (series read (λ s a. next s (f a)) m (next s (f a)) j) λ rest k. good (a ∷ rest) k
+
+  abbrev rest_made : ℕ → S → B → ℕ → Out (List B)
+  rest_made m s b j = then (series made next m (next s b) j) λ rest k. good (b ∷ rest) k
+
+  after_one : (m : ℕ) (s : S) (o : Out A) → ((a : A) (j : ℕ) → answer (series read (λ s a. next s (f a)) m (next s (f a)) j) ≡ answer (series made next m (next s (f a)) j))
+      → answer (then o (rest_read m s)) ≡ answer (then (then o (λ a j. good (f a) j)) (rest_made m s))
+  after_one m s (bad n p) h = refl
+  after_one m s (good a j) h =
+      handed_on layer.Book (series read (λ s a. next s (f a)) m (next s (f a)) j) (λ rest. a ∷ rest)
+      ∙ h a j
+      ∙ sym (handed_on layer.Book (series made next m (next s (f a)) j) (λ rest. f a ∷ rest))
+
+  series_made : (m : ℕ) (s : S) (i : ℕ) → answer (series read (λ s a. next s (f a)) m s i) ≡ answer (series made next m s i)
+  series_made zero s i = refl
+  series_made (suc m) s i = after_one m s (read s i) (λ a j. series_made m (next s (f a)) j) ∙ sym (ap (λ o. answer (then o (rest_made m s))) (same s i))
+
+-- The atoms of both groups.
+made_unless : {A B : Type 0} (f : A → B) (b : Bool) (i : ℕ) (a : A) (j : ℕ) → unless b 8 i (good (f a) j) ≡ then (unless b 8 i (good a j)) (λ x k. good (f x) k)
+made_unless f true i a j = refl
+made_unless f false i a j = refl
+
+made_head : {B : Type 0} (f : Entry → B) (p q : Entry → Bool) (i : ℕ) (o : Out Entry) → ((e : Entry) → p e ≡ q e)
+    → then o (λ e j. unless (p e) 8 i (good (f e) j)) ≡ then (then o (λ e j. unless (q e) 8 i (good e j))) (λ e j. good (f e) j)
+made_head f p q i (bad n k) h = refl
+made_head f p q i (good e j) h = ap (λ b. unless b 8 i (good (f e) j)) (h e) ∙ made_unless f (q e) i e j
+
+and_true : (b : Bool) → b ≡ b && true
+and_true true = refl
+and_true false = refl
+
+pub relevant_answer : (t : Table) → answer (members_in t place.Relevant [] t.relevant 0) ≡ answer (starts_in t)
+relevant_answer t =
+    let f : Entry → Start = λ e. record { atom = e.operand; starts = eqb e.kind 19 } in
+    series_made (member t place.Relevant []) f (start t) after_start
+    (λ low i. made_head f (λ e. leb low e.operand) (λ e. leb low e.operand && true) i (head t place.Relevant most_levels i) (λ e. and_true (leb low e.operand)))
+    t.relevant 0 0
+
+pub always_answer : (t : Table) (i : ℕ) → answer (members_in t place.Always (take t.relevant t.operands) t.always i) ≡ answer (always_in t i)
+always_answer t i =
+    let f : Entry → ℕ = λ e. e.operand in
+    series_made (member t place.Always (take t.relevant t.operands)) f (always_true t) after_atom
+    (λ low i. let q : Entry → Bool = λ e. leb low e.operand && not (is_listed t e.operand) in made_head f q q i (head t place.Always most_levels i) (λ e. refl))
+    t.always 0 i
 
 -- What rises, by places.
 each_at : {A : Type 0} (P : A → Type 0) (xs : List A) → Each P xs → (d : A) (k : ℕ) → k < length xs → P (get_or xs k d)

@@ -9,7 +9,7 @@ use Rattle.book.specs.Reads.{goal_place, actions_place}
 use Rattle.book.specs.Opens.{accepted, book_of}
 use Rattle.book.specs.Finds.{fact_of}
 use Rattle.book.specs.Groups.{Rises}
-use Rattle.book.proofs.Atoms.{from_first, rises}
+use Rattle.book.proofs.Atoms.{rises}
 use Rattle.book.proofs.Reaching.{ground_reaches}
 use Rattle.book.proofs.Standing.{stands, opened}
 use Rattle.book.proofs.WellFormed.{atoms_rise, always_risen}
@@ -39,13 +39,13 @@ module _ (t : Table) (h : accepted t ≡ true) (long : t.entries ≤ length t.op
       omega (arith, w.0, w.1)
 
   abbrev first_group : List ℕ
-  first_group = between 0 t.relevant t.operands
+  first_group = take t.relevant t.operands
 
   abbrev second_group : List ℕ
   second_group = between t.relevant (t.relevant + t.always) t.operands
 
   first_is : first_group ≡ map (λ (s : Start). s.atom) (book_of t).relevant
-  first_is = from_first t.relevant t.operands ∙ sym (opened t h long).listed
+  first_is = sym (opened t h long).listed
 
   second_is : second_group ≡ (book_of t).always
   second_is =
@@ -72,7 +72,6 @@ module _ (t : Table) (h : accepted t ≡ true) (long : t.entries ≤ length t.op
   -- a fact is below the number of relevant atoms, or that number
   pub fact_small : (x p : ℕ) → Some p ≡ cond (has x first_group) (Some (position x first_group)) None → p ≤ t.relevant
   fact_small x p e =
-      let n : t.relevant - 0 ≡ t.relevant = omega arith in
       let g = groups_inside in
-      let l = length-take-le (t.relevant - 0) t.operands (omega arith) in
+      let l = length-take-le t.relevant t.operands (omega arith) in
       omega (arith, found_small first_group x p e, l)

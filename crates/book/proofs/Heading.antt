@@ -1,10 +1,17 @@
 -- The first entry of what is read.
-use Rattle.std.proofs.Common.{◌≡◌, ℕ, ◌+◌, Bool, true, false, ltb, get_or, Ok, sym, ap, arith}
+use Rattle.std.proofs.Common.{◌≡◌, ℕ, ◌+◌, Bool, true, false, ltb, get_or, Ok, Err, Result, sym, ap, arith}
+use Rattle.std.specs.Result.{IsErrAnd}
+use Rattle.fault.specs.declared.Fault.{Fault}
 use Rattle.table.specs.declared.places.Place.{Place}
 use Rattle.table.specs.Permits.{permitted}
 use Rattle.table.specs.Reading.{Entry, Out, good, then, unless}
 use Rattle.book.specs.Tables.{Table, entry_at, in_range, head}
 use Rattle.book.specs.Views.{answer, heading}
+
+-- a refusal that is handed on
+pub handed_back : {A : Type 0} (r : Result A Fault) (f : Fault) → IsErrAnd r (λ g. g ≡ f) → r ≡ Err f
+handed_back (Ok x) f h = absurd h
+handed_back (Err g) f h = ap Err h
 
 -- an entry that the code was given
 after_tests : (a b c d : Bool) (x e : Entry) (i : ℕ) → Ok e ≡ heading (unless a 4 i (unless b 3 i (unless c 6 i (unless d 5 i (good x (i + 1)))))) → (unless a 4 i (unless b 3 i (unless c 6 i (unless d 5 i (good x (i + 1))))) ≡ good e (i + 1)) × (x ≡ e)

@@ -1,7 +1,7 @@
 -- Searching for an action by its name.
-use Rattle.std.proofs.Common.{◌≡◌, ℕ, zero, suc, ◌+◌, ◌<◌, ◌≤◌, true, false, cond, eqb, List, [], ◌∷◌, length, get_or, Some, None, Option, sym, refl, ap, ◌∙◌, inl, inr, ⊎_elim, arith}
+use Rattle.std.proofs.Common.{◌≡◌, ℕ, zero, suc, ◌+◌, ◌<◌, ◌≤◌, true, false, cond, List, [], ◌∷◌, length, get_or, Some, None, Option, sym, refl, ap, ◌∙◌, inl, inr, ⊎_elim, arith}
 use lib.ListN.{length-map}
-use Rattle.std.proofs.lemmas.Bool.{eqb-true, eqb-false, cases_Bool, cases_lt}
+use Rattle.std.proofs.lemmas.Bool.{cases_Bool, cases_lt}
 use Rattle.model.specs.Lists.{In}
 use Rattle.model.specs.Trees.{Name}
 use Rattle.model.specs.Books.{Action, same_name}
@@ -12,38 +12,10 @@ use Rattle.book.specs.Tables.{Table}
 use Rattle.book.specs.Reads.{precedes, listed, actions_place}
 use Rattle.book.specs.Opens.{accepted, book_of}
 use Rattle.book.specs.Finds.{names_of, number_from, Tells}
-use Rattle.book.proofs.Order.{first_same, first_less, precedes_trans, name_precedes}
+use Rattle.book.proofs.Order.{not_before_itself, precedes_trans, name_precedes}
 use Rattle.book.proofs.Atoms.{rises_by}
 use Rattle.book.proofs.Standing.{stands, opened}
 use Rattle.book.proofs.WellFormed.{names_rise}
-
--- The order of names.
-not_before_itself : (a : List ℕ) → precedes a a ≡ false
-not_before_itself [] = refl
-not_before_itself (x ∷ a) = first_same x x (precedes a a) refl ∙ not_before_itself a
-
-less : (u v : ℕ) → v ≤ u → (u ≡ v → ⊥) → v < u
-less u v h n = ⊎_elim (λ l. l) (λ l. absurd (n (omega arith))) (cases_lt v u)
-
-neither : (a b : List ℕ) → precedes a b ≡ false → precedes b a ≡ false → a ≡ b
-neither [] [] p q = refl
-neither [] (y ∷ b) p q = clash (sym p)
-neither (x ∷ a) [] p q = clash (sym q)
-neither (x ∷ a) (y ∷ b) p q =
-    ⊎_elim
-    (λ e. let h = eqb-true x y e in
-    ap (λ n. n ∷ a) h ∙ ap (λ c. y ∷ c) (neither a b (sym (first_same x y (precedes a b) h) ∙ p) (sym (first_same y x (precedes b a) (sym h)) ∙ q)))
-    (λ e. ⊎_elim
-    (λ l. clash (sym p ∙ first_less x y (precedes a b) l))
-    (λ l. clash (sym q ∙ first_less y x (precedes b a) (less x y l (eqb-false x y e))))
-    (cases_lt x y))
-    (cases_Bool (eqb x y))
-
-same_listed : (m k : Name) → listed m ≡ listed k → m ≡ k
-same_listed m k e =
-    let p : m.operator ≡ k.operator = cc in
-    let q : m.objects ≡ k.objects = cc in
-    λ i. record { operator = p i; objects = q i }
 
 -- a name is not the same as one that comes before it, or after it
 apart : (m k : Name) → precedes (listed m) (listed k) ≡ true → same_name m k ≡ false
@@ -82,7 +54,7 @@ module _ (t : Table) (h : accepted t ≡ true) (long : t.entries ≤ length t.op
   abbrev acts : List Action
   acts = (book_of t).actions
 
-  abbrev nth : ℕ → Name
+  abbrev pub nth : ℕ → Name
   nth k = get_or (names_of acts) k m
 
   -- names rise
@@ -114,12 +86,11 @@ module _ (t : Table) (h : accepted t ≡ true) (long : t.entries ≤ length t.op
       (cases_lt k j)))
       (cases_lt j k)
 
-  pub found : (k : ℕ) → k < t.actions → precedes (listed (nth k)) (listed m) ≡ false → precedes (listed m) (listed (nth k)) ≡ false → Told acts m (Some k)
-  found k l p q =
+  pub found : (k : ℕ) → k < t.actions → nth k ≡ m → Told acts m (Some k)
+  found k l e =
       let o = opened t h long in
       let i : k < length acts = omega (arith, o.actions_count) in
       let z : k ≡ 0 + k = omega arith in
-      let e : nth k ≡ m = same_listed (nth k) m (neither (listed (nth k)) (listed m) p q) in
       let before : (j : ℕ) → j < k → precedes (listed (nth j)) (listed m) ≡ true = λ j g. ap (λ (n : Name). precedes (listed (nth j)) (listed n)) (sym e) ∙ rising j k g l in
       record {
         number = ap Some z ∙ number_at acts m m 0 k i (ap (same_name m) e ∙ same_name_refl m) (λ j g. apart_back m (nth j) (before j g));

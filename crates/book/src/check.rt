@@ -9,6 +9,7 @@ use fault::Fault;
 use table::{Kind, Place};
 
 // The formula at place `at`, where so many levels are left.
+// Each check answers with a place: it is passed beside the table, since a cursor of both would be taken apart at each.
 pub(crate) fn check_ground(table: &BookTable, levels: u32, at: usize) -> Result<usize, Fault>
     ensures { result ≡ answer (ground (table_in table.now) levels at) }
 {
@@ -17,7 +18,8 @@ pub(crate) fn check_ground(table: &BookTable, levels: u32, at: usize) -> Result<
     match head.kind {
         Kind::Not => check_ground(table, levels - 1, next),
         Kind::And | Kind::Or => {
-            for _k in 0..head.operand {
+            // a fold's closure would stand in the cycle of calls, and want a contract and a measure of its own
+            for _ in 0..head.operand {
                 next = check_ground(table, levels - 1, next)?;
             }
             Ok(next)

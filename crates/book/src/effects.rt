@@ -41,7 +41,8 @@ fn check_literals(table: &BookTable, at: usize) -> Result<usize, Fault>
         return Err(Fault::new(Cause::OperandOutOfRange, Layer::Book, at as u64));
     }
     let mut next = at + 1;
-    for _k in 0..head.operand {
+    // a loop, as in `check_ground`, where a fold is no plainer
+    for _ in 0..head.operand {
         next = check_literal(table, next)?;
     }
     Ok(next)
@@ -67,7 +68,8 @@ pub(crate) fn check_effect(table: &BookTable, at: usize) -> Result<usize, Fault>
 {
     let head = head_at(table, Place::Clauses, 513, at)?;
     let mut next = at + 1;
-    for _k in 0..head.operand {
+    // a loop, as in `check_ground`, where a fold is no plainer
+    for _ in 0..head.operand {
         next = check_clause(table, next)?;
     }
     Ok(next)

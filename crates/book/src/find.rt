@@ -1,36 +1,24 @@
 // Walking over the actions of a book.
 ghost use Rattle.std.specs.Prelude.{◌≡◌, ◌+◌, ◌<◌, ◌≤◌};
 ghost use Rattle.protocol.specs.Names.{name_of};
-ghost use Rattle.book.specs.Reads.{precedes as comes_before, listed};
 ghost use Rattle.book.specs.Named.{name_in, SomeAction, name_end, SomeBody, body_end};
 ghost use Rattle.book.specs.Views.{table as table_in};
 
 use crate::book_table::BookTable;
 use crate::check::check_ground;
 use crate::effects::check_effect;
-use crate::names::{check_objects, precedes};
+use crate::names::check_objects;
 use protocol::Name;
-
-// Whether the name `a` comes before the name `b`.
-pub(crate) fn is_before(a: Name, b: Name) -> bool
-    ensures { result ≡ comes_before (listed (name_of a.entry)) (listed (name_of b.entry)) }
-{
-    if a.operator == b.operator {
-        precedes(a.objects, b.objects)
-    } else {
-        a.operator < b.operator
-    }
-}
 
 // The place after the name of the action at place `at`.
 pub(crate) fn end_of_name(table: &BookTable, at: usize) -> usize
     requires { SomeAction (table_in table.now) at }
     ensures { result ≡ name_end (table_in table.now) at }
 {
-    match check_objects(table, 4, at + 1) {
-        Ok(end) => end,
-        Err(_) => unreachable(),
-    }
+    let Ok(end) = check_objects(table, 4, at + 1) else {
+        unreachable()
+    };
+    end
 }
 
 // The name from place `at` to place `end`.
@@ -49,12 +37,11 @@ pub(crate) fn end_of_body(table: &BookTable, at: usize) -> usize
     requires { SomeBody (table_in table.now) at }
     ensures { result ≡ body_end (table_in table.now) at }
 {
-    let effect = match check_ground(table, 513, at) {
-        Ok(effect) => effect,
-        Err(_) => unreachable(),
+    let Ok(effect) = check_ground(table, 513, at) else {
+        unreachable()
     };
-    match check_effect(table, effect) {
-        Ok(end) => end,
-        Err(_) => unreachable(),
-    }
+    let Ok(end) = check_effect(table, effect) else {
+        unreachable()
+    };
+    end
 }

@@ -1,70 +1,66 @@
 // Checking the two groups of atoms, and finding an atom in a group.
-ghost use Rattle.std.specs.Prelude.{◌≡◌, ℕ, ◌+◌, ◌-◌, ◌<◌, ◌≤◌, length, take, if◌then◌else◌, Some, None, OnOk};
+ghost use Rattle.std.specs.Prelude.{◌≡◌, ◌+◌, ◌<◌, ◌≤◌, length, take, if◌then◌else◌, Some, None};
 ghost use Rattle.model.specs.Lists.{has, position};
 ghost use Rattle.book.specs.Reads.{starts_in, always_in};
-ghost use Rattle.book.specs.Groups.{Rises, rising_entry};
-ghost use Rattle.table.specs.Entries.{all_coded};
-ghost use Rattle.book.specs.Views.{table as table_in, answer, heading};
+ghost use Rattle.book.specs.Groups.{Rises, members_in};
+ghost use Rattle.book.specs.Views.{table as table_in, answer};
 
 use crate::book_table::BookTable;
 use crate::head::head_at;
 use fault::{Cause, Fault, Layer};
-use table::{Head, Place};
+use table::Place;
 
-// Where the atom stands among atoms that rise.
-pub(crate) fn place_of(atoms: &[u32], atom: u32) -> Option<usize>
-    requires { Rises atoms.now }
-    ensures { result ≡ (if has atom atoms.now then Some (position atom atoms.now) else None) }
+// Atoms that rise.
+#[derive(Clone, Copy)]
+pub struct Group<'a> {
+    pub atoms: &'a [u32],
+    ghost rises: { Rises atoms.now },
+}
+
+impl<'a> Group<'a> {
+    // Where the atom stands.
+    pub(crate) fn place_of(&self, atom: u32) -> Option<usize>
+        ensures { result ≡ (if has atom self.now.atoms.now then Some (position atom self.now.atoms.now) else None) }
+    {
+        self.atoms.binary_search(&atom).ok()
+    }
+}
+
+// The atoms of a group, from place `from`: they rise, and none is among the others.
+fn check_members(
+    table: &BookTable,
+    place: Place,
+    others: Group,
+    count: u32,
+    from: usize,
+) -> Result<usize, Fault>
+    ensures { result ≡ answer (members_in (table_in table.now) place others.entry.atoms.now count from) }
 {
     let mut low = 0;
-    let mut high = atoms.len();
-    while low < high {
-        let middle = low + (high - low) / 2;
-        let found = atoms[middle];
-        if found == atom {
-            return Some(middle);
+    // counted by hand: nothing says that `from + count` fits
+    let mut at = from;
+    for _ in 0..count {
+        let atom = head_at(table, place, 513, at)?.operand;
+        if (atom as u64) < low || others.place_of(atom).is_some() {
+            return Err(Fault::new(Cause::NotRising, Layer::Book, at as u64));
         }
-        if found < atom {
-            low = middle + 1;
-        } else {
-            high = middle;
-        }
+        low = atom as u64 + 1;
+        at += 1;
     }
-    None
-}
-
-// Whether the atom is among atoms that rise.
-pub(crate) fn has_atom(atoms: &[u32], atom: u32) -> bool
-    requires { Rises atoms.now }
-    ensures { result ≡ has atom atoms.now }
-{
-    match place_of(atoms, atom) {
-        Some(_) => true,
-        None => false,
-    }
-}
-
-// The entry at place `at` of a group, whose atom is at least `low`.
-fn check_atom(table: &BookTable, place: Place, low: u64, at: usize) -> Result<Head, Fault>
-    ensures same { all_coded result ≡ heading (rising_entry (table_in table.now) place low at) }
-    ensures inside { OnOk result (at < table.now.sizes.entries) }
-{
-    let head = head_at(table, place, 513, at)?;
-    if (head.operand as u64) < low {
-        return Err(Fault::new(Cause::NotRising, Layer::Book, at as u64));
-    }
-    Ok(head)
+    Ok(at)
 }
 
 // The atoms that start true or false, from the first entry on.
 pub(crate) fn check_relevant(table: &BookTable) -> Result<usize, Fault>
     ensures { result ≡ answer (starts_in (table_in table.now)) }
 {
-    let mut low = 0;
-    for at in 0..table.sizes.relevant as usize {
-        low = check_atom(table, Place::Relevant, low, at)?.operand as u64 + 1;
-    }
-    Ok(table.sizes.relevant as usize)
+    check_members(
+        table,
+        Place::Relevant,
+        Group { atoms: &[] },
+        table.sizes.relevant,
+        0,
+    )
 }
 
 // The atoms that are always true, from place `from`.
@@ -73,16 +69,8 @@ pub(crate) fn check_always(table: &BookTable, from: usize) -> Result<usize, Faul
     requires rising { Rises (take table.now.sizes.relevant table.now.entries.operands.now) }
     ensures { result ≡ answer (always_in (table_in table.now) from) }
 {
-    let relevant = &table.entries.operands[0..table.sizes.relevant as usize];
-    let mut low = 0;
-    let mut at = from;
-    for _k in 0..table.sizes.always {
-        let head = check_atom(table, Place::Always, low, at)?;
-        if has_atom(relevant, head.operand) {
-            return Err(Fault::new(Cause::NotRising, Layer::Book, at as u64));
-        }
-        low = head.operand as u64 + 1;
-        at += 1;
-    }
-    Ok(at)
+    let relevant = Group {
+        atoms: &table.entries.operands[..table.sizes.relevant as usize],
+    };
+    check_members(table, Place::Always, relevant, table.sizes.always, from)
 }

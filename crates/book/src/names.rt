@@ -30,18 +30,11 @@ pub(crate) fn check_objects(table: &BookTable, room: u32, at: usize) -> Result<u
 }
 
 // Whether the list `a` comes before the list `b`: from the left, and before any longer one that it begins.
-pub(crate) fn precedes(a: &[u32], b: &[u32]) -> bool
+#[tactic(auto, using(crate::proofs::Order::less_precedes))]
+fn precedes(a: &[u32], b: &[u32]) -> bool
     ensures { result ≡ comes_before a.now b.now }
 {
-    for i in 0..a.len() {
-        if i >= b.len() {
-            return false;
-        }
-        if a[i] != b[i] {
-            return a[i] < b[i];
-        }
-    }
-    a.len() < b.len()
+    a < b
 }
 
 // The name of the action at place `at`, which comes after the name `before`: the place after it.
@@ -63,15 +56,13 @@ pub(crate) fn check_actions(table: &BookTable, from: usize) -> Result<usize, Fau
     ensures { result ≡ answer (actions_in (table_in table.now) from) }
 {
     let mut at = from;
-    // the last name stands from `start` to `end`
-    let mut start = 0;
-    let mut end = 0;
-    for _k in 0..table.sizes.actions {
-        let named = check_name(table, &table.entries.operands[start..end], at)?;
-        start = at;
-        end = named;
-        let effect = check_ground(table, 513, named)?;
-        at = check_effect(table, effect)?;
+    let mut before: &[u32] = &[];
+    // a fold would carry both variables as a pair, and is no plainer
+    for _ in 0..table.sizes.actions {
+        let named = check_name(table, before, at)?;
+        before = &table.entries.operands[at..named];
+        let judged = check_ground(table, 513, named)?;
+        at = check_effect(table, judged)?;
     }
     Ok(at)
 }

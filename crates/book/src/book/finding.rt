@@ -6,9 +6,10 @@ ghost use Rattle.book.specs.Finds.{number_from, Tells, action_place, fact_of as 
 ghost use Rattle.book.specs.Held.{held, tree_of};
 
 use super::Book;
-use crate::find::{end_of_body, end_of_name, is_before, name_at};
-use crate::groups::{has_atom, place_of};
+use crate::find::{end_of_body, end_of_name, name_at};
+use crate::groups::Group;
 use protocol::Name;
+use std::cmp::Ordering;
 
 impl<'a> Book<'a> {
     // The number of the action with that name. Names rise: those that come before it are passed over.
@@ -20,14 +21,11 @@ impl<'a> Book<'a> {
         for k in 0..self.table.sizes.actions {
             let end = end_of_name(&self.table, at);
             let found = name_at(&self.table, at, end);
-            if !is_before(found, name) {
-                return if is_before(name, found) {
-                    None
-                } else {
-                    Some(k)
-                };
+            match found.cmp(&name) {
+                Ordering::Less => at = end_of_body(&self.table, end),
+                Ordering::Equal => return Some(k),
+                Ordering::Greater => return None,
             }
-            at = end_of_body(&self.table, end);
         }
         None
     }
@@ -40,7 +38,7 @@ impl<'a> Book<'a> {
             return None;
         }
         let mut at = self.actions_at;
-        for _k in 0..number {
+        for _ in 0..number {
             at = end_of_body(&self.table, end_of_name(&self.table, at));
         }
         Some(at)
@@ -50,13 +48,10 @@ impl<'a> Book<'a> {
     pub fn fact_of(&self, atom: u32) -> Option<u32>
         ensures { result ≡ fact_in (tree_of self.now) atom }
     {
-        match place_of(
-            &self.table.entries.operands[0..self.table.sizes.relevant as usize],
-            atom,
-        ) {
-            Some(place) => Some(place as u32),
-            None => None,
-        }
+        let relevant = Group {
+            atoms: &self.table.entries.operands[..self.table.sizes.relevant as usize],
+        };
+        relevant.place_of(atom).map(|place| place as u32)
     }
 
     // Whether the atom is always true.
@@ -65,7 +60,10 @@ impl<'a> Book<'a> {
     {
         let from = self.table.sizes.relevant as usize;
         let to = from + self.table.sizes.always as usize;
-        has_atom(&self.table.entries.operands[from..to], atom)
+        let always = Group {
+            atoms: &self.table.entries.operands[from..to],
+        };
+        always.place_of(atom).is_some()
     }
 
     // How many atoms the task has.

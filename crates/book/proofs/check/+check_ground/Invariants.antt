@@ -8,7 +8,7 @@ abbrev pub decreases-check_ground : goal.decreases-check_ground
 decreases-check_ground l = l.levels
 
 -- the parts that are left, read from here, answer as all parts do
-abbrev pub invariant-loop-k : goal.invariant-loop-k
-invariant-loop-k l =
-    answer (many (ground (table l.table) (l.levels - 1)) (l._k-end - l._k) l.next)
-    ≡ answer (many (ground (table l.table) (l.levels - 1)) l._k-end l.initial.next)
+abbrev pub invariant-loop : goal.invariant-loop
+invariant-loop l =
+    answer (many (ground (table l.table) (l.levels - 1)) (l.end - l.counter) l.next)
+    ≡ answer (many (ground (table l.table) (l.levels - 1)) l.end l.initial.next)

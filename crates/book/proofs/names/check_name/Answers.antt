@@ -1,16 +1,20 @@
 use Rattle.table.proofs.Lengths.{operands_long}
-use Rattle.std.proofs.Common.{Err, sym, ap, ◌∙◌, arith}
-use Rattle.std.proofs.lemmas.Result.{err_from_is_err_and}
+use Rattle.std.proofs.Common.{◌<◌, ◌≤◌, Err, sym, ap, ◌∙◌, arith}
 use Rattle.table.proofs.Answering.{made_refused}
 use Rattle.table.specs.Entries.{coded}
 use Rattle.book.specs.Views.{table}
+use Rattle.book.proofs.Heading.{handed_back}
 use Rattle.book.proofs.Naming.{reached, objects_refused, name_good, name_bad, name_is}
 use Rattle.book.proofs.names.check_name.Goals as goal
+use Rattle.book.proofs.names.check_name.Goals.{In_ok-end}
+
+-- the name ends after it begins, and inside the table
+forth : (c : In_ok-end) → (c.args.at < c.in_ok-end.end) × (c.in_ok-end.end ≤ c.args.table.now.sizes.entries)
+forth c = reached (table c.args.table.now) (operands_long c.args.table.now.entries c.args.table.now.whole) c.args.before.now c.args.at _ c.in_ok-end.end c.in_ok-head_at.ensures.inside c.in_ok-head_at.ensures.same c.in_ok-end.ensures
 
 pub returns-in_err-end : goal.returns-in_err-end
 returns-in_err-end c =
-    let p = err_from_is_err_and c.from_residual-in_err-end.result c.from_residual-in_err-end.ensures.1 in
-    let e = p.1 ∙ ap Err p.2 in
+    let e = handed_back c.from_residual-in_err-end.result _ c.from_residual-in_err-end.ensures.1 in
     record {
       same = e ∙ objects_refused (table c.args.table.now) c.args.before.now c.args.at (coded c.in_ok-head_at.field-0) c.in_ok-head_at.ensures.same c.in_err-end.field-0.0 c.in_err-end.ensures;
       inside = made_refused _ _ _ e;
@@ -18,24 +22,16 @@ returns-in_err-end c =
     }
 
 pub slice_bounds-precedes-count : goal.slice_bounds-precedes-count
-slice_bounds-precedes-count c =
-    let r = reached (table c.args.table.now) (operands_long c.args.table.now.entries c.args.table.now.whole) c.args.before.now c.args.at _ c.in_ok-end.end c.in_ok-head_at.ensures.inside c.in_ok-head_at.ensures.same c.in_ok-end.ensures in
-    omega (arith, r.0, r.1)
+slice_bounds-precedes-count c = let r = forth ((goal.at.slice_bounds-precedes-count c).In_ok-end) in omega (arith, r.0)
 
 pub slice_bounds-precedes-start : goal.slice_bounds-precedes-start
-slice_bounds-precedes-start c =
-    let r = reached (table c.args.table.now) (operands_long c.args.table.now.entries c.args.table.now.whole) c.args.before.now c.args.at _ c.in_ok-end.end c.in_ok-head_at.ensures.inside c.in_ok-head_at.ensures.same c.in_ok-end.ensures in
-    omega (arith, r.0, r.1)
+slice_bounds-precedes-start c = let r = forth ((goal.at.slice_bounds-precedes-start c).In_ok-end) in omega (arith, r.0)
 
 pub slice_bounds-precedes-end : goal.slice_bounds-precedes-end
-slice_bounds-precedes-end c =
-    let r = reached (table c.args.table.now) (operands_long c.args.table.now.entries c.args.table.now.whole) c.args.before.now c.args.at _ c.in_ok-end.end c.in_ok-head_at.ensures.inside c.in_ok-head_at.ensures.same c.in_ok-end.ensures in
-    omega (arith, r.0, r.1, (operands_long c.args.table.now.entries c.args.table.now.whole))
+slice_bounds-precedes-end c = let r = forth ((goal.at.slice_bounds-precedes-end c).In_ok-end) in omega (arith, r.1, (operands_long c.args.table.now.entries c.args.table.now.whole))
 
 pub overflow_sub-end : goal.overflow_sub-end
-overflow_sub-end c =
-    let r = reached (table c.args.table.now) (operands_long c.args.table.now.entries c.args.table.now.whole) c.args.before.now c.args.at _ c.in_ok-end.end c.in_ok-head_at.ensures.inside c.in_ok-head_at.ensures.same c.in_ok-end.ensures in
-    omega (arith, r.0, r.1)
+overflow_sub-end c = let r = forth ((goal.at.overflow_sub-end c).In_ok-end) in omega (arith, r.0)
 
 pub returns-then-not-precedes : goal.returns-then-not-precedes
 returns-then-not-precedes c =
@@ -56,6 +52,6 @@ returns c =
     let p = sym c.if-not-precedes.ensures in
     record {
       same = name_good t n b c.args.at _ c.in_ok-end.end i s o p;
-      inside = reached t n b c.args.at _ c.in_ok-end.end i s o;
+      inside = forth ((goal.at.returns c).In_ok-end);
       text = name_is t n b c.args.at _ c.in_ok-end.end i s o p;
     }

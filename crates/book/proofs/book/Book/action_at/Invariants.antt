@@ -4,5 +4,5 @@ use Rattle.book.specs.Held.{held}
 use Rattle.book.proofs.book.Book.action_at.Given as goal
 
 -- here the next action begins
-abbrev pub invariant-loop-k : goal.invariant-loop-k
-invariant-loop-k l = l.at ≡ action_place (held l.self) l._k
+abbrev pub invariant-loop : goal.invariant-loop
+invariant-loop l = l.at ≡ action_place (held l.self) l.counter
