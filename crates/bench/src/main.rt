@@ -28,7 +28,8 @@ const LOCKING: [Name; 2] = [
     },
 ];
 
-// A task table and the names that are performed on it.
+// A task table and the names that are performed on it. Its arrays are lent as slices: a course for tables of any length would have to
+// bound that length, for its arrays to fit in memory.
 #[derive(Clone, Copy)]
 struct Course<'c> {
     words: &'c str,
