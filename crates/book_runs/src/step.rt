@@ -31,6 +31,7 @@ impl Scene<'_> {
     }
 
     // Puts what the effect at place `at` adds, or deletes.
+    // `adds` is the value that is put, which a store takes as a bool; a struct of it and the store would have to promise everywhere that it stays.
     fn put_effect<S: Store>(&self, at: usize, store: &mut S, adds: bool)
         requires { is_good (effect (table_in self.now) at) ≡ true }
         ensures size { S.extent store.new ≡ S.extent store.old }
