@@ -7,7 +7,7 @@ use Rattle.book_runs.specs.declared.scene.Scene.{Scene}
 
 -- the table of its book
 abbrev pub table_in : Scene → Table
-table_in s = table s.table
+table_in s = table s.table.now
 
 -- the state that its image shows
 abbrev pub state_in : Scene → State

@@ -28,7 +28,7 @@ pub(crate) fn perform_action<S: Store>(book: &Book, image: &[u8], name: Name, st
     };
     let precondition = after_objects(&book.table, at + 1);
     let scene = Scene {
-        table: book.table,
+        table: &book.table,
         image,
     };
     scene.attempt(precondition, store)

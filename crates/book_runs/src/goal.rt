@@ -15,7 +15,7 @@ pub(crate) fn judge_goal(book: &Book, image: &[u8]) -> bool
     let sizes = book.table.sizes;
     let at = sizes.relevant as usize + sizes.always as usize;
     let scene = Scene {
-        table: book.table,
+        table: &book.table,
         image,
     };
     let (value, _) = scene.judge(513, at);

@@ -23,7 +23,7 @@ impl Scene<'_> {
         ensures end { result.1 ≡ next_place (ground (table_in self.now) levels at) }
     {
         let operand = self.table.operands[at];
-        match kind_at(&self.table, at) {
+        match kind_at(self.table, at) {
             Kind::True => (true, at + 1),
             Kind::Fact => (shows(self.image, operand), at + 1),
             Kind::Not => {
@@ -48,7 +48,7 @@ impl Scene<'_> {
         for left in (0..count).rev() {
             let (part, end) = self.judge(levels, next);
             if part != undecided {
-                return (part, skip_all(&self.table, levels, end, left));
+                return (part, skip_all(self.table, levels, end, left));
             }
             next = end;
         }

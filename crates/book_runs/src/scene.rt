@@ -3,6 +3,6 @@ use book::BookTable;
 
 #[derive(Clone, Copy)]
 pub(crate) struct Scene<'a> {
-    pub(crate) table: BookTable<'a>,
+    pub(crate) table: &'a BookTable<'a>,
     pub(crate) image: &'a [u8],
 }

@@ -22,12 +22,12 @@ impl Scene<'_> {
         ensures size { S.extent store.new ≡ S.extent store.old }
         ensures set { S.facts store.new ≡ put_literals (S.extent store.old) adds (literals_in (state_in self.now) (clause (table_in self.now) at)) (S.facts store.old) }
     {
-        if is_kind(&self.table, at, Kind::When) {
+        if is_kind(self.table, at, Kind::When) {
             let (holds, literals) = self.judge(511, at + 1);
-            return put_literals(&self.table, literals, store, adds, holds);
+            return put_literals(self.table, literals, store, adds, holds);
         }
-        put_literal(&self.table, at, store, adds);
-        literal_end(&self.table, at)
+        put_literal(self.table, at, store, adds);
+        literal_end(self.table, at)
     }
 
     // Puts what the effect at place `at` adds, or deletes.

@@ -15,7 +15,7 @@ invariant-loop g l =
     let n = m.extent l.initial.store in
     let s = state_in l.self in
     let left = many (clause (table_in l.self)) l.counter l.next in
-    let whole = many (clause (table_in l.self)) (get_or l.self.table.operands.now l.at 0) (l.at + 1) in
+    let whole = many (clause (table_in l.self)) (get_or l.self.table.now.operands.now l.at 0) (l.at + 1) in
     record {
       size : m.extent l.store ≡ n;
       stand : is_good left ≡ true;
