@@ -13,7 +13,7 @@ use crate::skip::skip_all;
 use protocol::shows;
 use table::Kind;
 
-impl Scene<'_, '_> {
+impl Scene<'_> {
     // The value of the formula at place `at`, where `levels` levels are left, and the place after it.
     #[cycle(judge_judge_group)]
     #[tactic(auto, using(crate::proofs::Standing::formulas))]

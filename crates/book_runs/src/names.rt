@@ -22,10 +22,7 @@ pub(crate) fn after_objects(table: &BookTable, at: usize) -> usize
     ensures { result ≡ next_place (objects (table_in table.now) 4 at) }
 {
     let mut next = at;
-    for _k in 0..4u32 {
-        if !is_object_at(table, next) {
-            return next;
-        }
+    while is_object_at(table, next) {
         next += 1;
     }
     next

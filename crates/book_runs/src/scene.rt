@@ -2,7 +2,7 @@
 use book::BookTable;
 
 #[derive(Clone, Copy)]
-pub(crate) struct Scene<'s, 'a> {
-    pub(crate) table: &'s BookTable<'a>,
-    pub(crate) image: &'s [u8],
+pub(crate) struct Scene<'a> {
+    pub(crate) table: &'a BookTable<'a>,
+    pub(crate) image: &'a [u8],
 }

@@ -14,7 +14,7 @@ use crate::scene::Scene;
 use store::Store;
 use table::Kind;
 
-impl Scene<'_, '_> {
+impl Scene<'_> {
     // Puts what the part of an effect at place `at` adds, or deletes, its condition judged; tells the place after it.
     fn put_clause<S: Store>(&self, at: usize, store: &mut S, adds: bool) -> usize
         requires { is_good (clause (table_in self.now) at) ≡ true }
@@ -31,6 +31,7 @@ impl Scene<'_, '_> {
     }
 
     // Puts what the effect at place `at` adds, or deletes.
+    // `adds` is the value that is put, which a store takes as a bool; a struct of it and the store would have to promise everywhere that it stays.
     fn put_effect<S: Store>(&self, at: usize, store: &mut S, adds: bool)
         requires { is_good (effect (table_in self.now) at) ≡ true }
         ensures size { S.extent store.new ≡ S.extent store.old }

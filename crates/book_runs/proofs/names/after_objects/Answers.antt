@@ -1,17 +1,19 @@
-use Rattle.std.proofs.Common.{◌+◌, ◌-◌, sym, ◌∙◌, arith}
+use Rattle.std.proofs.Common.{sym, refl, ◌∙◌, arith}
 use Rattle.book.specs.Views.{table}
-use Rattle.book_runs.proofs.Objects.{object_more, objects_end, objects_over}
+use Rattle.book_runs.proofs.Objects.{object_more, objects_end, object_inside}
 use Rattle.book_runs.proofs.names.after_objects.Goals as goal
 
-pub returns-then-not-is_object_at : goal.returns-then-not-is_object_at
-returns-then-not-is_object_at c =
-    objects_end (table c.args.table.now) (4 - c.loop-k._k) c.loop-k.next (sym c.is_object_at.ensures ∙ c.if-not-is_object_at.true)
-    ∙ c.loop-k.invariant.1
+pub loop-next-init : goal.loop-next-init
+loop-next-init c = (4, c.requires, refl)
 
-pub loop-k-preserved : goal.loop-k-preserved
-loop-k-preserved c =
-    let w = object_more (table c.args.table.now) (4 - c.loop-k._k) (4 - (c.loop-k._k + 1)) c.loop-k.next (omega arith) c.loop-k.invariant.0 (sym c.is_object_at.ensures ∙ c.if-not-is_object_at.false) in
-    (w.0, w.1 ∙ c.loop-k.invariant.1)
+pub loop-next-smaller : goal.loop-next-smaller
+loop-next-smaller c = omega (arith, object_inside (table c.args.table.now) c.loop-next.next (sym c.is_object_at.ensures ∙ c.loop-next-test.true))
+
+pub loop-next-preserved : goal.loop-next-preserved
+loop-next-preserved c =
+    let i = c.loop-next.invariant in
+    let w = object_more (table c.args.table.now) i.0 c.loop-next.next i.1 (sym c.is_object_at.ensures ∙ c.loop-next-test.true) in
+    (w.0, w.1, w.2 ∙ i.2)
 
 pub returns : goal.returns
-returns c = objects_over (table c.args.table.now) (4 - c.loop-k._k) c.loop-k.next (omega arith) c.loop-k.invariant.0 ∙ c.loop-k.invariant.1
+returns c = objects_end (table c.args.table.now) c.loop-next.invariant.0 c.loop-next.next (sym c.is_object_at.ensures ∙ c.loop-next-test.false) ∙ c.loop-next.invariant.2
