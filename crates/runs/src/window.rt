@@ -47,9 +47,10 @@ impl Sink for Window {
 fn fresh(from: usize) -> Window
     ensures { (result.len ≡ 0) × (result.skip ≡ from) × (length result.items ≡ 64) }
 {
+    // All zeros, so that the array is cleared at once.
     let none = Literal {
         atom: 0,
-        sign: Sign::Deletes,
+        sign: Sign::Adds,
     };
     Window {
         items: [none; 64],
