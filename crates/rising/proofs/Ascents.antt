@@ -1,6 +1,9 @@
 -- What holds of rising lists.
-use Rattle.std.proofs.Common.{◌≡◌, ℕ, ◌+◌, ◌-◌, ◌<◌, ◌≤◌, min, ◌≢◌, ◌↔◌, List, length, get_or, take, set, sym, ap, ◌∙◌, subst, inl, inr, ⊎_elim, arith, length-take, Ordering, Less}
+use Rattle.std.proofs.Common.{◌≡◌, ℕ, ◌+◌, ◌-◌, ◌<◌, ◌≤◌, min, ◌≢◌, ◌↔◌, List, length, get_or, take, set, sym, ap, ◌∙◌, subst, inl, inr, ⊎_elim, arith, length-take, Ordering, Less, Equal, Result, Ok, Err, MatchResult}
 use Rattle.std.specs.Cmp.{IsTotalOrder}
+use Rattle.std.specs.Ordering.{is_lt, ordering_reverse}
+use Rattle.std.specs.List.Sorted.{IsSortedBy, IsSearchInRange, IsBinarySearchResult}
+use Rattle.std.proofs.lemmas.List.Sorted.{searchable_from_sorted}
 use Rattle.std.proofs.lemmas.Cmp.{tied_itself}
 use Rattle.std.specs.List.{ContainsAt as Has}
 use Rattle.std.proofs.lemmas.List.{get_or-take, get_or_default, get_or-set_same, get_or-set_other, length-set}
@@ -140,6 +143,23 @@ module _ {K : Type 0} {L : K → K → Type 0} {cmp : K → K → Ordering} (tot
   -- what comes before a key comes before all that it comes before
   pub chain : (x y z : K) → L x y → L y z → L x z
   chain x y z h k = (less x z).1 (total.trans x y z ((less x y).0 h) ((less y z).0 k))
+
+  -- a list that rises is sorted
+  sorted : (xs : List K) → Rises L xs → IsSortedBy (λ x y. is_lt (cmp x y)) xs
+  sorted xs up k d low h =
+      let e = (less _ _).0 (up k (k + 1) d (omega arith) h) in
+      ap is_lt (total.antisymm (get_or xs (k + 1) d) (get_or xs k d)) ∙ ap (λ o. is_lt (ordering_reverse o)) e
+
+  -- what the library's search says of a list that rises, where only the same key is equal
+  pub found_by_search : ((x y : K) → cmp x y ≡ Equal → x ≡ y) → (xs : List K) (k : K) (r : Result ℕ ℕ) → IsSearchInRange r (length xs) → IsBinarySearchResult (λ y. cmp y k) xs r → Rises L xs → MatchResult r (Spot xs k) (Gap L xs k)
+  found_by_search same xs k (Ok i) inside at up = record { within = inside; is = λ d. same _ k (at d) }
+  found_by_search same xs k (Err i) inside split up =
+      let point = split (searchable_from_sorted total (λ y. y) xs k (sorted xs up)) in
+      record {
+        within = inside;
+        below = λ j d h. (less _ k).1 (point.0 j d (omega arith) h);
+        above = λ j d le h. (less k _).1 (total.antisymm k _ ∙ ap ordering_reverse (point.1 j d le h));
+      }
 
   -- a key with a gap is in no place
   pub gap_missing : (xs : List K) (k : K) (at : ℕ) → Gap L xs k at → Has xs k → ⊥

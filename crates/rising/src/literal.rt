@@ -13,6 +13,7 @@ pub enum Sign {
 }
 
 impl Sign {
+    // Whether it is added.
     pub fn adds(self) -> bool
         ensures { result ≡ is_adds self }
     {

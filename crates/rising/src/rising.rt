@@ -63,6 +63,7 @@ impl<'a, K: Key> Rising<'a, K> {
     }
 
     // The place of the key, or the place where it would stand.
+    #[tactic(auto, using(crate::proofs::Ascents::found_by_search))]
     pub fn find(&self, key: &K) -> Result<usize, usize>
         ensures within { MatchResult result (λ i. i < length (items self.now)) (λ i. i ≤ length (items self.now)) }
         ensures found { Rises K.before (items self.now) → MatchResult result (Spot (items self.now) key.now) (Gap K.before (items self.now) key.now) }

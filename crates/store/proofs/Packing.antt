@@ -1,15 +1,14 @@
 -- What holds of a set that is kept as packed bits.
-use Rattle.std.proofs.Common.{◌≡◌, ℕ, zero, suc, ◌-◌, ◌*◌, ◌/◌, ◌%◌, ◌^◌, ◌<◌, min, Bool, true, false, cond, ◌&&◌, eqb, ltb, ◌⊎◌, List, ◌++◌, length, get_or, take, drop, set, replicate, sym, refl, ap, ◌∙◌, inl, inr, ⊎_elim, arith}
+use Rattle.std.proofs.Common.{◌≡◌, ℕ, zero, suc, ◌-◌, ◌*◌, ◌/◌, ◌%◌, ◌^◌, ◌<◌, min, Bool, true, false, cond, ◌&&◌, eqb, ltb, ◌⊎◌, List, length, get_or, drop, set, replicate, sym, refl, ap, ◌∙◌, inl, inr, ⊎_elim, arith}
 use mathlib.Core.Path.{fun_ext}
 use lib.Bits.{bit_and, bit_or, or_zero_r}
-use Rattle.std.proofs.lemmas.Nat.{or_shr, or_mod, and_shr, and_mod, and_mask, mod_below, one_shl}
-use Rattle.std.proofs.lemmas.List.{get_or-set_same, get_or-set_other, get_or_past, get_or-replicate, get_or_append_left, length-replicate, length-append, length-drop, length-take-le}
+use Rattle.std.proofs.lemmas.Nat.{or_shr, or_mod, and_shr, and_mod, mod_below, one_shl}
+use Rattle.std.proofs.lemmas.List.{get_or-set_same, get_or-set_other, length-replicate, length-append, length-drop}
 use Rattle.std.proofs.lemmas.Slice.{drop-append-drop}
-use Rattle.std.proofs.lemmas.Bool.{cases_eq, cases_lt, cases_Bool, eqb-true, eq-eqb, ne_eqb, lt-ltb, le-ltb, cond-true, cond-false}
+use Rattle.std.proofs.lemmas.Bool.{cases_eq, cases_Bool, eqb-true, eq-eqb, ne_eqb, lt-ltb, cond-true, cond-false}
 use Rattle.std.proofs.lemmas.Bool.Decides.{Decides-below_and}
 use Rattle.store.specs.Packed.{bit_facts, cleared}
-use Rattle.store.specs.Sets.{with_fact, none}
-use Rattle.store.specs.Within.{no_bit}
+use Rattle.store.specs.Sets.{with_fact}
 
 -- ---- a fact of all pairs of numbers below 8, computed
 
@@ -48,10 +47,6 @@ bit_and_lem b i j hi hj =
     let value : (q : Bool) → bit_and (b / 2 ^ i % 2) (cond q 0 1) ≡ cond q 0 (b / 2 ^ i % 2) = λ q. elim q as (λ v. bit_and (b / 2 ^ i % 2) (cond v 0 1) ≡ cond v 0 (b / 2 ^ i % 2)) [ true ↦ ⊎_elim (λ z. ap (λ w. bit_and w 0) z) (λ o. ap (λ w. bit_and w 0) o) (digit (b / 2 ^ i)) | false ↦ ⊎_elim (λ z. ap (λ w. bit_and w 1) z ∙ sym z) (λ o. ap (λ w. bit_and w 1) o ∙ sym o) (digit (b / 2 ^ i)) ] in
     split ∙ value (eqb i j)
 
--- the low bit, as the code reads it
-pub low_bit : (n : ℕ) → bit_and n 1 ≡ n % 2
-low_bit n = and_mask n 1
-
 -- ---- the set
 
 -- c is b with bit j as told
@@ -84,9 +79,6 @@ facts_put bytes k c present inside small change = fun_ext (λ j.
     ∙ sym (cond-false (eqb j k) present (bit_facts bytes j) (ne_eqb j k ne)))
     (cases_eq j k))
 
-pub facts_has : (bytes : List ℕ) (k : ℕ) → k < 65536 → eqb (bit_and (get_or bytes (k / 8) 0 / 2 ^ (k % 8)) 1) 1 ≡ bit_facts bytes k
-facts_has bytes k small = ap (λ q. eqb q 1) (low_bit (get_or bytes (k / 8) 0 / 2 ^ (k % 8))) ∙ ap (λ q. q && eqb (get_or bytes (k / 8) 0 / 2 ^ (k % 8) % 2) 1) (sym (lt-ltb k 65536 small))
-
 pub length_cleared : (bytes : List ℕ) → length (cleared bytes) ≡ length bytes
 length_cleared bytes =
     let n = min (length bytes) 8192 in
@@ -96,34 +88,10 @@ length_cleared bytes =
     let back = length-drop n bytes in
     omega (arith, parts, front, back)
 
-pub facts_cleared : (bytes : List ℕ) → bit_facts (cleared bytes) ≡ none
-facts_cleared bytes =
-    let n = min (length bytes) 8192 in
-    let zeros : List ℕ = replicate n 0 in
-    let front : length zeros ≡ n = length-replicate n _ in
-    let whole = length_cleared bytes in
-    fun_ext (λ k.
-    ⊎_elim
-    (λ lt.
-    ap (λ q. ltb k 65536 && eqb (q / 2 ^ (k % 8) % 2) 1)
-    (⊎_elim
-    (λ low. get_or_append_left zeros (drop n bytes) 0 (k / 8) (omega (arith, front, low)) ∙ get_or-replicate n (k / 8) 0 0 low)
-    (λ high. get_or_past (cleared bytes) (k / 8) 0 (omega (arith, whole, high)))
-    (cases_lt (k / 8) n))
-    ∙ no_bit (k % 8) (ltb k 65536))
-    (λ ge. ap (λ q. q && eqb (get_or (cleared bytes) (k / 8) 0 / 2 ^ (k % 8) % 2) 1) (le-ltb k 65536 ge))
-    (cases_lt k 65536))
-
 pub rest_cleared : (bytes : List ℕ) → drop 8192 (cleared bytes) ≡ drop 8192 bytes
 rest_cleared bytes =
     let n = min (length bytes) 8192 in
     drop-append-drop n bytes (replicate n 0) 8192 (omega arith) (length-replicate n _)
-
--- what the code makes of the bytes
-pub cleared_is : (bytes front : List ℕ) (n : ℕ) → n ≡ min (length bytes) 8192 → front ≡ replicate (length (take n bytes)) 0 → front ++ drop n bytes ≡ cleared bytes
-cleared_is bytes front n least zeros =
-    let l : length (take n bytes) ≡ min (length bytes) 8192 = length-take-le n bytes (omega arith) ∙ least in
-    ap (λ f. f ++ drop n bytes) (zeros ∙ ap (λ m. replicate m 0) l) ∙ ap (λ m. replicate (min (length bytes) 8192) 0 ++ drop m bytes) least
 
 -- the byte that the code writes
 pub changed_or : (b j : ℕ) (present : Bool) (c : ℕ) → present ≡ true → j < 8 → c ≡ bit_or b ((1 * 2 ^ j) % 256) → Changed b j present c

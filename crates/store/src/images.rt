@@ -24,6 +24,7 @@ pub fn copy<S: Store>(store: &S, image: &mut [u8], n: u32) -> Result<(), Fault>
     ensures answer { result ≡ copied (S.extent store.now) (length image.old) n }
 {
     room_for(store, image, n)?;
+    // By index: after a zip with iter_mut the proof would not know the bytes written.
     for k in 0..n {
         image[k as usize] = store.has(k).unwrap().into();
     }

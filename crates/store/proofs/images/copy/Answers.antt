@@ -1,5 +1,4 @@
 use Rattle.std.proofs.Common.{◌<◌, length, set, sym, ap, ◌∙◌, arith}
-use mir.Val.{bool_byte}
 use Rattle.store.proofs.Pictures.{pictured_more, answered_is, room_from_ok}
 use Rattle.store.proofs.images.copy.Goals as goal
 
