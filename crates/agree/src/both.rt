@@ -2,11 +2,11 @@
 ghost use Rattle.std.specs.Prelude.{◌≡◌, ℕ, ◌<◌, ◌≤◌, ◌⊎◌, length, IsOk, IsErr, OnOk, OnErr};
 ghost use Rattle.adl.specs.Held.{tree_of as task_of};
 ghost use Rattle.book.specs.Held.{tree_of as book_of};
-ghost use Rattle.protocol.specs.Machines.{unbegun};
+ghost use Rattle.protocol.specs.Machines.{unbegun, Played};
 ghost use Rattle.protocol.specs.TaskCalls.{task_machine};
 ghost use Rattle.protocol.specs.BookCalls.{book_machine};
 ghost use Rattle.agreement.specs.Agreement.{Room, BeginsFirst, EachCallAgrees};
-ghost use Rattle.agree.specs.Sides.{MadeFrom, Played, AnswersAgree};
+ghost use Rattle.agree.specs.Sides.{MadeFrom, AnswersAgree};
 
 use adl::Task;
 use book::Book;
