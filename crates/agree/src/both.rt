@@ -18,8 +18,7 @@ use store::Store;
 
 // Plays the calls one after the other on a task and on a book, each over its own store and image, and writes what each answers;
 // does nothing where either array has fewer places for answers than there are calls.
-// A struct of a store, an image and answers would make four parameters of these nine; it was tried, and what its fields hold at the
-// return has no names in a clause.
+// A struct of a store, an image and answers for each side was tried: what they are at the return has no names in a clause then.
 pub fn play_both<S: Store, R: Store>(
     task: &Task,
     task_store: &mut S,
