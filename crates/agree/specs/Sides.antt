@@ -1,13 +1,11 @@
 -- A task and a book, and a list of calls played on each.
-use Rattle.std.specs.Prelude.{◌≡◌, ℕ, List, ◌∷◌, ◌++◌, length, take, drop, slice_index_or}
-use Rattle.model.specs.Meaning.{State}
+use Rattle.std.specs.Prelude.{◌≡◌, ℕ, List, ◌∷◌, ◌++◌, length, slice_index_or}
 use Rattle.model.specs.Trees as tree
 use Rattle.model.specs.Books.{book}
 use Rattle.adl.specs.Held as loaded
 use Rattle.adl.specs.declared.task.Task.{Task}
 use Rattle.book.specs.Held as opened
 use Rattle.book.specs.declared.book.Book.{Book}
-use Rattle.protocol.specs.Machines.{Machine, Turn, after, answers}
 use Rattle.protocol.specs.declared.calls.Answer.{Answer}
 use Rattle.protocol.specs.declared.calls.Answer.TheVariants.{NoRun}
 use Rattle.protocol.specs.declared.calls.Call.{Call}
@@ -16,14 +14,6 @@ use Rattle.agreement.specs.Agreement.{steps_of, Alike}
 -- the book was made from the task: the record holds the book of the task that is loaded
 abbrev pub MadeFrom : Task → Book → Type 0
 MadeFrom t b = opened.tree_of b ≡ book (loaded.tree_of t)
-
--- a list of calls was played: the store's set and the image are what it comes to, its answers stand at the first places of the array,
--- and past them the array holds what it held
-pub record Played (m : Machine) (first : Turn) (cs : List Call) (held : List Answer) (set : State) (image : List ℕ) (out : List Answer) : Type 0 where
-  pub set_is : set ≡ (after m first cs).set
-  pub image_is : image ≡ (after m first cs).image
-  pub answered : take (length cs) out ≡ answers m first cs
-  pub rest : drop (length cs) out ≡ drop (length cs) held
 
 -- the answers that stand in the two arrays agree, call by call
 abbrev pub AnswersAgree : tree.Task → List Call → List Answer → List Answer → Type 0

@@ -2,11 +2,11 @@
 ghost use Rattle.std.specs.Prelude.{◌≡◌, ℕ, ◌<◌, ◌≤◌, ◌⊎◌, length, IsOk, IsErr, OnOk, OnErr};
 ghost use Rattle.adl.specs.Held.{tree_of as task_of};
 ghost use Rattle.book.specs.Held.{tree_of as book_of};
-ghost use Rattle.protocol.specs.Machines.{unbegun};
+ghost use Rattle.protocol.specs.Machines.{unbegun, Played};
 ghost use Rattle.protocol.specs.TaskCalls.{task_machine};
 ghost use Rattle.protocol.specs.BookCalls.{book_machine};
 ghost use Rattle.agreement.specs.Agreement.{Room, BeginsFirst, EachCallAgrees};
-ghost use Rattle.agree.specs.Sides.{MadeFrom, Played, AnswersAgree};
+ghost use Rattle.agree.specs.Sides.{MadeFrom, AnswersAgree};
 
 use adl::Task;
 use book::Book;
@@ -18,8 +18,7 @@ use store::Store;
 
 // Plays the calls one after the other on a task and on a book, each over its own store and image, and writes what each answers;
 // does nothing where either array has fewer places for answers than there are calls.
-// A struct of a store, an image and answers would make four parameters of these nine; it was tried, and what its fields hold at the
-// return has no names in a clause.
+// A struct of a store, an image and answers for each side was tried: what they are at the return has no names in a clause then.
 pub fn play_both<S: Store, R: Store>(
     task: &Task,
     task_store: &mut S,

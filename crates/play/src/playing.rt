@@ -1,7 +1,7 @@
 // Playing a list of calls.
-ghost use Rattle.std.specs.Prelude.{◌≡◌, ℕ, ◌<◌, ◌≤◌, List, length, take, drop, Some, IfSome, IsOk, IsErr, OnOk};
+ghost use Rattle.std.specs.Prelude.{◌≡◌, ℕ, ◌<◌, ◌≤◌, List, length, Some, IfSome, IsOk, IsErr, OnOk};
 ghost use Rattle.std.specs.Option.{option_map};
-ghost use Rattle.protocol.specs.Machines.{Turn, unbegun, running, turn_from, after, answers as AnswersOf};
+ghost use Rattle.protocol.specs.Machines.{Turn, unbegun, running, turn_from, Played};
 
 use crate::too_few_places::TooFewPlaces;
 use protocol::{Answer, Call, Run};
@@ -104,10 +104,8 @@ pub fn play<R: Run, S: Store>(
     ensures size { S.extent store.new ≡ S.extent store.old }
     ensures short { length answers.old < length calls.now → IsErr result × (answers.new ≡ answers.old) × (image.new ≡ image.old) × (store.new ≡ store.old) }
     ensures long { length calls.now ≤ length answers.old → IsOk result }
-    ensures answered { OnOk result (take (length calls.now) answers.new ≡ AnswersOf (R.machine subject (S.extent store.old)) (unbegun (S.facts store.old) image.old) calls.now) }
-    ensures rest { OnOk result (drop (length calls.now) answers.new ≡ drop (length calls.now) answers.old) }
-    ensures set { OnOk result (S.facts store.new ≡ (after (R.machine subject (S.extent store.old)) (unbegun (S.facts store.old) image.old) calls.now).set) }
-    ensures image { OnOk result (image.new ≡ (after (R.machine subject (S.extent store.old)) (unbegun (S.facts store.old) image.old) calls.now).image) }
+    ensures played { OnOk result (Played (R.machine subject (S.extent store.old)) (unbegun (S.facts store.old) image.old) calls.now answers.old
+        (S.facts store.new) image.new answers.new) }
 {
     if answers.len() < calls.len() {
         return Err(TooFewPlaces);

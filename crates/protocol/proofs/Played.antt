@@ -2,7 +2,7 @@
 use Rattle.std.proofs.Common.{◌≡◌, ℕ, suc, ◌+◌, ◌<◌, ◌≤◌, List, [], ◌∷◌, ◌++◌, length, get_or, take, drop, set, Option, sym, refl, ap, ◌∙◌, arith}
 use Rattle.std.proofs.lemmas.List.{append_assoc, length-map, length-take-le, set_at, take_more, drop_more, take_all, take_at, drop_at}
 use Rattle.model.specs.Meaning.{State}
-use Rattle.protocol.specs.Machines.{Machine, Turn, turn_from, turn, turns, after, answers}
+use Rattle.protocol.specs.Machines.{Machine, Turn, turn_from, turn, turns, after, answers, Played}
 use Rattle.protocol.specs.declared.calls.Answer.{Answer}
 use Rattle.protocol.specs.declared.calls.Answer.TheVariants.{NoRun}
 use Rattle.protocol.specs.declared.calls.Call.{Call}
@@ -37,28 +37,21 @@ module _ (m : Machine) where
 
 -- the first i calls are played: the run, the set and the image are what they have come to, and their answers stand at the first i
 -- places of what the answers' array held
-pub record Played (m : Machine) (first : Turn) (cs : List Call) (held : List Answer) (i : ℕ) (run : Option ℕ) (set : State) (image : List ℕ) (out : List Answer) : Type 0 where
+pub record PlayedSoFar (m : Machine) (first : Turn) (cs : List Call) (held : List Answer) (i : ℕ) (run : Option ℕ) (set : State) (image : List ℕ) (out : List Answer) : Type 0 where
   pub steps : run ≡ (after m first (take i cs)).steps
   pub set_is : set ≡ (after m first (take i cs)).set
   pub image_is : image ≡ (after m first (take i cs)).image
   pub answered : out ≡ answers m first (take i cs) ++ drop i held
 
--- all calls are played: their answers stand at the first places, and no other place is written
-pub record PlayedAll (m : Machine) (first : Turn) (cs : List Call) (held : List Answer) (set : State) (image : List ℕ) (out : List Answer) : Type 0 where
-  pub set_is : set ≡ (after m first cs).set
-  pub image_is : image ≡ (after m first cs).image
-  pub answered : take (length cs) out ≡ answers m first cs
-  pub rest : drop (length cs) out ≡ drop (length cs) held
-
 module _ (m : Machine) (first : Turn) (cs : List Call) (held : List Answer) where
   -- none is played
-  pub played_none : Played m first cs held 0 first.steps first.set first.image held
+  pub played_none : PlayedSoFar m first cs held 0 first.steps first.set first.image held
   played_none = record { steps = refl; set_is = refl; image_is = refl; answered = refl }
 
   -- one more is played
   pub played_more : (i : ℕ) (run : Option ℕ) (s : State) (im : List ℕ) (out : List Answer) (v : Turn) → i < length cs → length cs ≤ length held
-      → Played m first cs held i run s im out → v ≡ turn_from m run s im (get_or cs i Begin)
-      → Played m first cs held (i + 1) v.steps v.set v.image (set out i v.answer)
+      → PlayedSoFar m first cs held i run s im out → v ≡ turn_from m run s im (get_or cs i Begin)
+      → PlayedSoFar m first cs held (i + 1) v.steps v.set v.image (set out i v.answer)
   played_more i run s im out v h room p e =
       let c = get_or cs i Begin in
       let u = after m first (take i cs) in
@@ -85,8 +78,8 @@ module _ (m : Machine) (first : Turn) (cs : List Call) (held : List Answer) wher
       }
 
   -- the last is played
-  pub played_all : (i : ℕ) (run : Option ℕ) (s : State) (im : List ℕ) (out : List Answer) → length cs ≤ i → i ≤ length cs → Played m first cs held i run s im out
-      → PlayedAll m first cs held s im out
+  pub played_all : (i : ℕ) (run : Option ℕ) (s : State) (im : List ℕ) (out : List Answer) → length cs ≤ i → i ≤ length cs → PlayedSoFar m first cs held i run s im out
+      → Played m first cs held s im out
   played_all i run s im out h l p =
       let n : i ≡ length cs = omega arith in
       let whole : take i cs ≡ cs = take_all i cs h in

@@ -1,5 +1,5 @@
 -- What the calls of a run leave and answer, of a task's run and of a book's, and where a list of calls leads.
-use Rattle.std.specs.Prelude.{ℕ, Bool, List, [], ◌∷◌, map, Some, None, Ok, Err, Option, Result}
+use Rattle.std.specs.Prelude.{◌≡◌, ℕ, Bool, List, [], ◌∷◌, map, length, take, drop, Some, None, Ok, Err, Option, Result}
 use Rattle.fault.specs.declared.Fault.{Fault}
 use Rattle.fault.specs.declared.Layer.TheVariants.{Run}
 use Rattle.fault.specs.Faults.{refusal}
@@ -110,3 +110,11 @@ after m u (c ∷ cs) = after m (turn m u c) cs
 -- the answers, one for each call
 abbrev pub answers : Machine → Turn → List Call → List Answer
 answers m u cs = map (λ (v : Turn). v.answer) (turns m u cs)
+
+-- a list of calls was played: the store's set and the image are what it comes to, its answers stand at the first places of the array,
+-- and past them the array holds what it held
+pub record Played (m : Machine) (first : Turn) (cs : List Call) (held : List Answer) (set : State) (image : List ℕ) (out : List Answer) : Type 0 where
+  pub set_is : set ≡ (after m first cs).set
+  pub image_is : image ≡ (after m first cs).image
+  pub answered : take (length cs) out ≡ answers m first cs
+  pub rest : drop (length cs) out ≡ drop (length cs) held

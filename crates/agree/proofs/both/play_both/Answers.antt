@@ -15,4 +15,4 @@ returns-clause-agree g c made room order =
     c.args.task_image.now c.args.book_image.now c.args.calls.now
     c.play.new.answers c.play-2.new.answers
     (loaded_tasks_are_well_formed (held t) t.formed) made room order
-    c.in_ok-play.ensures.answered c.in_ok-play-2.ensures.answered
+    c.in_ok-play.ensures.played.answered c.in_ok-play-2.ensures.played.answered

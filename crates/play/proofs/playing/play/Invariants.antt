@@ -1,7 +1,7 @@
 use Rattle.std.proofs.Common.{◌≡◌, IfSome}
 use Rattle.std.specs.Option.{option_map}
 use Rattle.protocol.specs.Machines.{unbegun}
-use Rattle.protocol.proofs.Played.{Played}
+use Rattle.protocol.proofs.Played.{PlayedSoFar}
 use Rattle.play.proofs.playing.play.Given as goal
 
 -- the run is one of the subject, the store keeps its size, and the calls so far are played
@@ -12,6 +12,6 @@ invariant-loop-i g l =
     record {
       subject : IfSome l.run (λ x. r.of x ≡ l.subject);
       size : m.extent l.store ≡ m.extent l.initial.store;
-      played : Played (r.machine l.subject (m.extent l.initial.store)) (unbegun (m.facts l.initial.store) l.initial.image) l.calls l.initial.answers l.i
+      played : PlayedSoFar (r.machine l.subject (m.extent l.initial.store)) (unbegun (m.facts l.initial.store) l.initial.image) l.calls l.initial.answers l.i
           (option_map r.steps l.run) (m.facts l.store) l.image l.answers;
     }

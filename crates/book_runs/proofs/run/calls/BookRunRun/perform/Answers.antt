@@ -29,7 +29,7 @@ returns-then-not-perform_action-clause-performed g c =
     let p = c.if-not-perform_action.ensures in
     ap (λ (f : Fault). record { steps = steps; set = m.facts c.perform_action.new.store; image = c.copy.new.image; answer = Err f }) c.new-then-not-perform_action.ensures
     ∙ step_refused (tree_of book) size steps c.facts.result set (m.facts c.perform_action.new.store) c.args.image.now c.copy.new.image (name_of c.args.name)
-    c.if-steps-ge65535.false c.facts.ensures e.answer e.image p.judged p.set
+    (omega arith) c.facts.ensures e.answer e.image p.judged p.set
     ∙ takes_the_step _ _ (tree_of book) (well_formed book) size steps set c.args.image.now (name_of c.args.name)
 
 pub returns-clause-performed : goal.returns-clause-performed
@@ -42,5 +42,5 @@ returns-clause-performed g c =
     let e = c.in_ok-copy.ensures in
     let p = c.if-not-perform_action.ensures in
     step_taken (tree_of book) size steps c.facts.result set (m.facts c.perform_action.new.store) c.args.image.now c.copy.new.image (name_of c.args.name)
-    c.if-steps-ge65535.false c.facts.ensures e.answer e.image p.judged p.set
+    (omega arith) c.facts.ensures e.answer e.image p.judged p.set
     ∙ takes_the_step _ _ (tree_of book) (well_formed book) size steps set c.args.image.now (name_of c.args.name)

@@ -1,4 +1,4 @@
-use Rattle.std.proofs.Common.{◌≡◌, Err, ◌∙◌, rules}
+use Rattle.std.proofs.Common.{◌≡◌, Err, ◌∙◌, arith, rules}
 use Rattle.adl.specs.Held.{held, tree_of}
 use Rattle.adl_theorems.proofs.WellFormed.{loaded_tasks_are_well_formed}
 use Rattle.protocol.specs.Names.{name_of}
@@ -26,6 +26,6 @@ returns-clause-performed g c =
     let steps = c.args.self.now.steps in
     let set = m.facts c.args.store.now in
     step_taken (tree_of task) size steps task.atoms set (m.facts c.perform_operator.new.store) c.args.image.now c.copy.new.image (name_of c.args.name)
-    c.if-steps-ge65535.false task.counted c.in_ok-room_for.ensures c.if-not-fits.ensures c.copy.ensures.image
+    (omega arith) task.counted c.in_ok-room_for.ensures c.if-not-fits.ensures c.copy.ensures.image
     c.if-not-perform_operator.ensures.judged c.if-not-perform_operator.ensures.set
     ∙ takes_the_step (tree_of task) (loaded_tasks_are_well_formed (held task) task.formed) size steps set c.args.image.now (name_of c.args.name)
