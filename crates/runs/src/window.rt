@@ -5,7 +5,9 @@ ghost use Rattle.runs.specs.Windows.{offered, packed};
 
 use rising::Literal;
 
-// Up to 64 literals; `skip` is how many are still to be passed over. Nothing allocates here, so they stand in an array.
+// Up to 64 literals; `skip` is how many are still to be passed over.
+// They stand in an array with a length beside it, since nothing may allocate here; that the length is at most 64 is no ghost field,
+// since the specification makes windows field by field.
 #[derive(Clone, Copy)]
 pub(crate) struct Window {
     pub(crate) items: [Literal; 64],
