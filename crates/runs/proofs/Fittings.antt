@@ -2,9 +2,11 @@
 use Rattle.adl.specs.Kept.{places_from}
 use Rattle.adl.specs.declared.operator_places.OperatorPlaces.{OperatorPlaces}
 use Rattle.std.proofs.lemmas.List.{get_or-map}
-use Rattle.std.proofs.Common.{◌≡◌, ℕ, suc, ◌+◌, ◌-◌, ◌<◌, ◌≤◌, Bool, true, false, not, ◌&&◌, ◌||◌, ltb, List, [], ◌∷◌, length, get_or, take, drop, sym, refl, ap, ◌∙◌, subst, ⊎_elim, arith}
+use Rattle.std.proofs.Common.{◌≡◌, ℕ, suc, ◌+◌, ◌-◌, ◌<◌, ◌≤◌, Bool, true, false, not, ◌&&◌, ◌||◌, ltb, nat_eq, List, [], ◌∷◌, length, get_or, take, drop, sym, refl, ap, ◌∙◌, subst, ⊎_elim, arith}
 use Rattle.std.proofs.lemmas.List.{drop_more, take_rest, length-drop, nil_from_length, get_or-take}
-use Rattle.std.proofs.lemmas.Bool.{ne_eqb, lt-ltb, le-ltb, and_parts, and_left, and_right, cases_Bool}
+use Rattle.std.proofs.lemmas.Bool.{eqb-true, eq-eqb, lt-ltb, le-ltb, and_parts, and_left, and_right, cases_Bool}
+use Rattle.std.specs.List.{list_any}
+use Rattle.std.specs.Cmp.{both_ways}
 use Rattle.table.specs.declared.places.Place.TheVariants as place
 use Rattle.table.specs.Reading.{good, many}
 use Rattle.model.specs.Lists.{has, distinct}
@@ -31,14 +33,14 @@ first_and_others xs h = drop_more xs 0 0 h ∙ ap (λ ys. get_or xs 0 0 ∷ ys) 
 pub length_others : (xs : List ℕ) → length (others xs) ≡ length xs - 1
 length_others xs = ap length (take_rest xs 1) ∙ length-drop 1 xs
 
--- nothing is among none
-pub among_none : (n : ℕ) (xs : List ℕ) → length xs ≡ 0 → false ≡ has n xs
-among_none n xs h = sym (ap (has n) (nil_from_length xs h))
+-- a test of equality may be turned
+eq_turned : (m n : ℕ) → nat_eq m n ≡ nat_eq n m
+eq_turned m n = both_ways (nat_eq m n) (nat_eq n m) (λ e. eq-eqb n m (sym (eqb-true m n e))) (λ e. eq-eqb m n (sym (eqb-true n m e)))
 
--- a number that is not the first is among all if it is among the others
-pub among_others : (n : ℕ) (xs : List ℕ) (b : Bool) → 0 < length xs → (n ≡ get_or xs 0 0 → ⊥) → b ≡ has n (others xs) → b ≡ has n xs
-among_others n xs b h ne e =
-    e ∙ sym (ap (has n) (first_and_others xs h) ∙ ap (λ q. q || has n (others xs)) (ne_eqb n (get_or xs 0 0) ne))
+-- what a slice's `contains` tells
+pub has_listed : (n : ℕ) (xs : List ℕ) → list_any (λ x. nat_eq x n) xs ≡ has n xs
+has_listed n [] = refl
+has_listed n (x ∷ xs) = ap (λ b. b || list_any (λ x. nat_eq x n) xs) (eq_turned x n) ∙ ap (λ b. nat_eq n x || b) (has_listed n xs)
 
 -- no number stands twice in an empty list
 pub distinct_none : (xs : List ℕ) → length xs ≡ 0 → true ≡ distinct xs

@@ -1,6 +1,7 @@
 -- The members of a type, by the bits of its entry.
 use Rattle.std.proofs.Common.{◌≡◌, ℕ, ◌<◌, ◌≤◌, Bool, true, false, ◌&&◌, ltb, get_or, sym, refl, ap, ◌∙◌}
 use Rattle.std.proofs.lemmas.Bool.{ltb-true, lt-ltb, le-ltb, and_parts, and_from}
+use Rattle.std.specs.Cmp.{both_ways}
 use Rattle.model.specs.Lists.{below, keep, has}
 use Rattle.model.specs.Trees.{members, in_set}
 use Rattle.model.proofs.Members.{in_below, below_out, keep_out, in_keep, has_in, in_has}
@@ -8,16 +9,10 @@ use Rattle.adl.specs.Tables.{Table}
 use Rattle.adl.specs.Loads.{accepted, task_of}
 use Rattle.adl_theorems.proofs.Standing.{stands, type_at}
 
--- two tests that pass together are the same
-pub same_tests : (a b : Bool) → (a ≡ true → b ≡ true) → (b ≡ true → a ≡ true) → a ≡ b
-same_tests true b f g = sym (f refl)
-same_tests false true f g = g refl
-same_tests false false f g = refl
-
 -- the numbers below n that pass a test
 pub has_kept : (p : ℕ → Bool) (o n : ℕ) → has o (keep p (below n)) ≡ (ltb o n && p o)
 has_kept p o n =
-    same_tests (has o (keep p (below n))) (ltb o n && p o)
+    both_ways (has o (keep p (below n))) (ltb o n && p o)
     (λ e.
     let w = keep_out p o (below n) (has_in o (keep p (below n)) e) in
     and_from (ltb o n) (p o) (lt-ltb o n (below_out o n w.0)) w.1)

@@ -1,5 +1,6 @@
 -- Handing over the literals of an effect, part by part and member by member.
 use Rattle.std.proofs.Common.{◌≡◌, ℕ, zero, suc, ◌+◌, ◌<◌, ◌≤◌, Bool, true, false, cond, List, [], ◌∷◌, ◌++◌, get_or, fold, sym, refl, ap, ◌∙◌, ⊎_elim, add-one, arith}
+use Rattle.std.proofs.lemmas.List.Sums.{fold-append}
 use Rattle.std.proofs.lemmas.List.{append-nil, append_assoc, map-append}
 use Rattle.std.proofs.lemmas.Bool.{cases_lt}
 use Rattle.model.specs.Lists.{below, keep, gather}
@@ -12,11 +13,6 @@ use Rattle.runs.specs.Effects.{consequent_literals, consequents_literals, effect
 use Rattle.adl_theorems.proofs.Standing.{same_objects, type_at}
 
 -- Lists.
-
--- taking some elements, and then some more
-pub folded_append : {A B : Type 0} (f : B → A → B) (a : B) (xs ys : List A) → fold f a (xs ++ ys) ≡ fold f (fold f a xs) ys
-folded_append f a [] ys = refl
-folded_append f a (x ∷ xs) ys = folded_append f (f a x) xs ys
 
 pub gather_append : {A B : Type 0} (F : A → List B) (xs ys : List A) → gather F (xs ++ ys) ≡ gather F xs ++ gather F ys
 gather_append F [] ys = refl
@@ -59,12 +55,12 @@ more_kept p F i = ap (λ n. gather F (keep p (below n))) (add-one i) ∙ suc_kep
 module _ {A B : Type 0} (f : B → A → B) (a : B) (p : ℕ → Bool) (F : ℕ → List A) where
   pub with_member : (x y : B) (i : ℕ) → p i ≡ true → x ≡ fold f a (gather F (keep p (below i))) → y ≡ fold f x (F i) → y ≡ fold f a (gather F (keep p (below (i + 1))))
   with_member x y i e q r =
-      r ∙ ap (λ z. fold f z (F i)) q ∙ sym (folded_append f a (gather F (keep p (below i))) (F i))
+      r ∙ ap (λ z. fold f z (F i)) q ∙ sym (fold-append f a (gather F (keep p (below i))) (F i))
       ∙ ap (λ (b : Bool). fold f a (gather F (keep p (below i)) ++ cond b (F i) [])) (sym e) ∙ ap (fold f a) (sym (more_kept p F i))
 
   pub without_member : (x : B) (i : ℕ) → p i ≡ false → x ≡ fold f a (gather F (keep p (below i))) → x ≡ fold f a (gather F (keep p (below (i + 1))))
   without_member x i e q =
-      q ∙ sym (folded_append f a (gather F (keep p (below i))) [])
+      q ∙ sym (fold-append f a (gather F (keep p (below i))) [])
       ∙ ap (λ (b : Bool). fold f a (gather F (keep p (below i)) ++ cond b (F i) [])) (sym e) ∙ ap (fold f a) (sym (more_kept p F i))
 
   -- what takes no more is left as it is by the other members
@@ -80,7 +76,7 @@ module _ {A B : Type 0} (f : B → A → B) (a : B) (p : ℕ → Bool) (F : ℕ 
         (λ lt.
         let r = stops x i k (omega arith) h q in
         let rest = cond (p k) (F k) [] in
-        sym (ap (fold f a) (suc_kept p F k) ∙ folded_append f a (gather F (keep p (below k))) rest ∙ ap (λ (y : B). fold f y rest) (sym r) ∙ full_stays x rest h))
+        sym (ap (fold f a) (suc_kept p F k) ∙ fold-append f a (gather F (keep p (below k))) rest ∙ ap (λ (y : B). fold f y rest) (sym r) ∙ full_stays x rest h))
         (λ ge. q ∙ ap (λ (j : ℕ). fold f a (gather F (keep p (below j)))) (let e : i ≡ suc k = omega arith in e))
         (cases_lt i (suc k))
 
@@ -100,7 +96,7 @@ module _ {B : Type 0} (f : B → Literal → B) (T : Task) (sh : List ℕ) (a b 
   pub first_and_rest : (c : Consequent) (ds cs : List Consequent) (x : B) → cs ≡ c ∷ ds → x ≡ fold f a (consequent_literals T sh c) → b ≡ fold f x (consequents_literals T sh ds)
       → b ≡ fold f a (consequents_literals T sh cs)
   first_and_rest c ds cs x m p q =
-      q ∙ ap (λ (z : B). fold f z (consequents_literals T sh ds)) p ∙ sym (folded_append f a (consequent_literals T sh c) (consequents_literals T sh ds))
+      q ∙ ap (λ (z : B). fold f z (consequents_literals T sh ds)) p ∙ sym (fold-append f a (consequent_literals T sh c) (consequents_literals T sh ds))
       ∙ ap (fold f a) (sym (map-append (ground T sh) (outcomes_of c) (all_outcomes (consequents_of ds)))) ∙ ap (λ (h : List Consequent). fold f a (consequents_literals T sh h)) (sym m)
 
   module _ (s : State) where
@@ -113,7 +109,7 @@ module _ {B : Type 0} (f : B → Literal → B) (T : Task) (sh : List ℕ) (a b 
         → b ≡ fold f a (effects_literals T s sh es)
     first_effect_and_rest e fs es x m p q =
         q ∙ ap (λ (z : B). fold f z (effects_literals T s sh fs)) p
-        ∙ sym (folded_append f a (effect_literals T s sh e) (effects_literals T s sh fs))
+        ∙ sym (fold-append f a (effect_literals T s sh e) (effects_literals T s sh fs))
         ∙ ap (fold f a) (sym (gather_append (λ (p : Part). cond (value T s p.sheet p.condition) p.literals []) (parts T sh e) (all_parts T sh (effects_of fs))))
         ∙ ap (λ (h : List Effect). fold f a (effects_literals T s sh h)) (sym m)
 

@@ -21,6 +21,7 @@ fn is_member(task: &Task, type_number: u32, object: u32) -> bool
 }
 
 // Whether the objects are of the types of as many parameters, which stand from place `at` on.
+// A chain of zip and all would need a slice of the operands first, and the bounds of each call in its closure.
 fn are_typed(task: &Task, at: usize, objects: &[u32]) -> bool
     requires { (tys : List ℕ) × (j : ℕ) × (many (parameter (held task.now)) (length objects.now) at ≡ good tys j) }
     ensures { (tys : List ℕ) (j : ℕ) → many (parameter (held task.now)) (length objects.now) at ≡ good tys j → result ≡ typed (tree_of task.now) tys objects.now }
@@ -32,23 +33,13 @@ fn are_typed(task: &Task, at: usize, objects: &[u32]) -> bool
     }
 }
 
-// Whether the number is among others.
-fn is_among(number: u32, others: &[u32]) -> bool
-    ensures { result ≡ has number others.now }
-{
-    match others {
-        [] => false,
-        [first, rest @ ..] => number == *first || is_among(number, rest),
-    }
-}
-
 // Whether the numbers all differ.
 fn are_distinct(numbers: &[u32]) -> bool
     ensures { result ≡ distinct numbers.now }
 {
     match numbers {
         [] => true,
-        [first, rest @ ..] => !is_among(*first, rest) && are_distinct(rest),
+        [first, rest @ ..] => !rest.contains(first) && are_distinct(rest),
     }
 }
 

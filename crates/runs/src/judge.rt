@@ -69,6 +69,7 @@ impl Scene<'_, '_> {
     }
 
     // The value of `count` formulas from place `at` on: whether all of them are true, or any; and the place after them.
+    // `all` is also the value of no formulas, which each part is compared with: an enum would need a method for each use.
     #[cycle(judging)]
     fn judge_all(&mut self, at: usize, count: u32, all: bool) -> (bool, usize)
         requires { (fs : List Formula) × (j : ℕ) × FormulasIn self.old at count fs j }

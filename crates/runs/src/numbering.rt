@@ -24,6 +24,7 @@ pub(crate) fn kind_at(task: &Task, at: usize) -> Kind
 }
 
 // The number of a predicate's first atom.
+// A sum of a map would leave its bound to a proof by hand over every run of the chain.
 fn first_atom(task: &Task, predicate: u32) -> u32
     requires { predicate ≤ task.now.table.sizes.predicates }
     ensures { result ≡ atoms_of (tree_of task.now).objects (take predicate (tree_of task.now).arities) }

@@ -22,6 +22,7 @@ fn skip_change(task: &Task, at: usize) -> usize
 }
 
 // The place after the consequent at place `at`.
+// Consequents and effects are two grammars over two trees: one function for both would promise each of them by a flag.
 #[cycle(skipping_consequents)]
 pub(crate) fn skip_consequent(task: &Task, at: usize) -> usize
     requires { (v : ℕ) × (c : Consequent) × (j : ℕ) × ConsequentAt (held task.now) v at c j }

@@ -5,7 +5,9 @@ ghost use Rattle.runs.specs.Windows.{offered, packed};
 
 use rising::{Literal, Sign};
 
-// Up to 64 literals; `skip` is how many are still to be passed over. Nothing allocates here, so they stand in an array.
+// Up to 64 literals; `skip` is how many are still to be passed over.
+// They stand in an array with a length beside it, since nothing may allocate here; that the length is at most 64 is no ghost field,
+// since the specification makes windows field by field.
 #[derive(Clone, Copy)]
 pub(crate) struct Window {
     pub(crate) items: [Literal; 64],
@@ -18,9 +20,10 @@ impl Window {
     pub(crate) fn fresh(from: usize) -> Window
         ensures { (result.len ≡ 0) × (result.skip ≡ from) × (length result.items ≡ 64) }
     {
+        // all zeros, so that the array is cleared at once
         let none = Literal {
             atom: 0,
-            sign: Sign::Deletes,
+            sign: Sign::Adds,
         };
         Window {
             items: [none; 64],
