@@ -1,8 +1,8 @@
 -- Objects, the order of names, and actions one after the other.
-use Rattle.std.proofs.Common.{◌≡◌, ℕ, zero, suc, ◌+◌, ◌-◌, ◌<◌, ◌≤◌, Bool, true, false, cond, eqb, ltb, List, [], ◌∷◌, length, get_or, take, drop, Ok, Err, sym, refl, ap, ◌∙◌, ⊎_elim, arith, ltb-true, le-ltb, lt-ltb, eq-eqb, ne_eqb}
+use Rattle.std.proofs.Common.{◌≡◌, ℕ, zero, suc, ◌+◌, ◌-◌, ◌<◌, ◌≤◌, Bool, true, false, cond, eqb, ltb, List, [], ◌∷◌, length, get_or, take, drop, Ok, Err, sym, refl, ap, ◌∙◌, arith, ltb-true, le-ltb, lt-ltb, eq-eqb, ne_eqb}
 use Rattle.std.specs.List.{between}
-use Rattle.std.proofs.lemmas.List.{drop_more, drop_all}
-use Rattle.std.proofs.lemmas.Bool.{and_from, and_left, and_right, and_parts, cases_lt}
+use Rattle.std.proofs.lemmas.List.{drop_more}
+use Rattle.std.proofs.lemmas.Bool.{and_from, and_left, and_right, and_parts}
 use Rattle.fault.specs.declared.Fault.{Fault}
 use Rattle.fault.specs.declared.Layer.TheVariants as layer
 use Rattle.fault.specs.Faults.{refusal}
@@ -16,7 +16,7 @@ use Rattle.book.specs.Tables.{Table, entry_at, most_levels, most_names, most_obj
 use Rattle.book.specs.Reads.{ground, effect, is_object, objects, precedes, listed, name, action, after_action}
 use Rattle.book.specs.Named.{name_in}
 use Rattle.book.specs.Views.{answer, heading}
-use Rattle.book.proofs.Heading.{headed, head_is, head_goes}
+use Rattle.book.proofs.Heading.{headed, head_is}
 
 -- Objects.
 module _ (t : Table) (i : ℕ) where
@@ -114,27 +114,6 @@ module _ (t : Table) (fit : t.entries ≤ length t.operands) where
   objects_text (suc room) i os j e =
       at_one room i os j (is_object t i) (ltb (get_or t.operands i 0) most_names) refl (λ os' j' e'. objects_text room (i + 1) os' j' e') e
 
--- The order of names, at place i of both.
-module _ (a b : List ℕ) (i : ℕ) where
-  pub longer : i < length a → length b ≤ i → false ≡ precedes (drop i a) (drop i b)
-  longer h l = sym (ap (λ x. precedes x (drop i b)) (drop_more a i 0 h) ∙ ap (precedes (get_or a i 0 ∷ drop (i + 1) a)) (drop_all i b l))
-
-  at_both : i < length a → i < length b → precedes (drop i a) (drop i b) ≡ cond (eqb (get_or a i 0) (get_or b i 0)) (precedes (drop (i + 1) a) (drop (i + 1) b)) (ltb (get_or a i 0) (get_or b i 0))
-  at_both h l = ap (λ x. precedes x (drop i b)) (drop_more a i 0 h) ∙ ap (precedes (get_or a i 0 ∷ drop (i + 1) a)) (drop_more b i 0 l)
-
-  pub differ : i < length a → i < length b → (get_or a i 0 ≡ get_or b i 0 → ⊥) → ltb (get_or a i 0) (get_or b i 0) ≡ precedes (drop i a) (drop i b)
-  differ h l n = sym (at_both h l ∙ ap (λ x. cond x (precedes (drop (i + 1) a) (drop (i + 1) b)) (ltb (get_or a i 0) (get_or b i 0))) (ne_eqb _ _ n))
-
-  pub alike : i < length a → i < length b → get_or a i 0 ≡ get_or b i 0 → precedes (drop (i + 1) a) (drop (i + 1) b) ≡ precedes (drop i a) (drop i b)
-  alike h l n = sym (at_both h l ∙ ap (λ x. cond x (precedes (drop (i + 1) a) (drop (i + 1) b)) (ltb (get_or a i 0) (get_or b i 0))) (eq-eqb _ _ n))
-
-  pub run_out : length a ≤ i → i ≤ length a → ltb (length a) (length b) ≡ precedes (drop i a) (drop i b)
-  run_out h g =
-      ⊎_elim
-      (λ l. lt-ltb (length a) (length b) l ∙ sym (ap (λ x. precedes x (drop i b)) (drop_all i a h) ∙ ap (precedes []) (let m : i < length b = omega arith in drop_more b i 0 m)))
-      (λ l. le-ltb (length a) (length b) l ∙ sym (ap (λ x. precedes x (drop i b)) (drop_all i a h) ∙ ap (precedes []) (let m : length b ≤ i = omega arith in drop_all i b m)))
-      (cases_lt (length a) (length b))
-
 -- A name, from what the code was told.
 module _ (t : Table) (fit : t.entries ≤ length t.operands) (before : List ℕ) (i : ℕ) (e : Entry) (j : ℕ) (inside : i < t.entries)
     (first : Ok e ≡ heading (head t place.Action most_levels i)) (rest : Ok j ≡ answer (objects t most_objects (i + 1))) where
@@ -173,13 +152,6 @@ module _ (t : Table) (fit : t.entries ≤ length t.operands) (before : List ℕ)
 
   pub name_is : precedes before (between i j os) ≡ true → name t before i ≡ good (name_in os i j) j
   name_is h = name_told ∙ ap (ending (name_in os i j)) h
-
--- objects that are refused refuse the name
-pub objects_refused : (t : Table) (before : List ℕ) (i : ℕ) (e : Entry) → Ok e ≡ heading (head t place.Action most_levels i) → (f : Fault) → Err f ≡ answer (objects t most_objects (i + 1)) → Err f ≡ answer (name t before i)
-objects_refused t before i e first f h =
-    let g : Entry → ℕ → Out Name = λ x m. then (objects t most_objects m) λ bs k. unless (precedes before (x.operand ∷ bs)) 8 (k - 1) (good (record { operator = x.operand; objects = bs }) k) in
-    refused layer.Book (objects t most_objects (i + 1)) (λ bs k. unless (precedes before (e.operand ∷ bs)) 8 (k - 1) (good (record { operator = e.operand; objects = bs }) k)) f h
-    ∙ head_goes t place.Action most_levels i e first g
 
 -- A turn of the loop over m actions, of which k are done.
 module _ (t : Table) (m k : ℕ) (before : List ℕ) (i : ℕ) (more : k < m) where

@@ -1,20 +1,19 @@
 -- Formulas and effects: what follows the first entry.
-use Rattle.std.proofs.Common.{◌≡◌, ℕ, zero, suc, ◌+◌, ◌-◌, ◌<◌, ltb, ◌⊎◌, List, Ok, Err, Result, sym, ap, ◌∙◌, ⊎_elim, arith, le-ltb, lt-ltb}
+use Rattle.std.proofs.Common.{◌≡◌, ℕ, zero, suc, ◌+◌, ◌-◌, ◌<◌, ltb, ◌⊎◌, List, Ok, Err, Result, sym, ap, ◌∙◌, ⊎_elim, arith, lt-ltb}
 use Rattle.fault.specs.declared.Fault.{Fault}
 use Rattle.fault.specs.declared.Layer.TheVariants as layer
-use Rattle.fault.specs.Faults.{refusal}
 use Rattle.table.specs.declared.places.Place.TheVariants as place
 use Rattle.table.specs.declared.kind.Kind.{Kind}
 use Rattle.table.specs.declared.kind.Kind.TheVariants.{Not, And, Or, When}
 use Rattle.table.specs.Kinds.{code_of}
 use Rattle.table.specs.Reading.{Entry, entry, Out, bad, good, then, unless, many}
-use Rattle.table.proofs.Answering.{refused, head_refused, handed_on, step_goes}
+use Rattle.table.proofs.Answering.{head_refused, handed_on, step_goes}
 use Rattle.table.proofs.Codes.{apart}
 use Rattle.model.specs.Meaning.{Literal}
 use Rattle.model.specs.Settling.{Ground, negated, group}
-use Rattle.model.specs.Books.{plain, when}
+use Rattle.model.specs.Books.{when}
 use Rattle.book.specs.Tables.{Table, head}
-use Rattle.book.specs.Reads.{junction_of, grounds_of, ground_by, ground, literal_by, literal, literals, clause_by, clause}
+use Rattle.book.specs.Reads.{junction_of, grounds_of, ground_by, ground, literal, literals, clause_by, clause}
 use Rattle.book.specs.Views.{answer, heading}
 use Rattle.book.proofs.Heading.{head_goes}
 
@@ -53,9 +52,6 @@ module _ (t : Table) (i : ℕ) (e : Entry) (h : Ok e ≡ heading (head t place.L
   abbrev after_literals : Entry → ℕ → Out (List Literal)
   after_literals x j = unless (ltb 0 x.operand) 5 i (many (literal t) x.operand j)
 
-  pub no_literals : e.operand ≡ 0 → Err (refusal 5 layer.Book i) ≡ answer (literals t i)
-  no_literals z = sym (ap (λ b. answer (unless b 5 i (many (literal t) e.operand (i + 1)))) (le-ltb 0 e.operand (omega arith))) ∙ head_goes t place.Literals 511 i e h after_literals
-
   pub some_literals : (e.operand ≡ 0 → ⊥) → answer (many (literal t) e.operand (i + 1)) ≡ answer (literals t i)
   some_literals z = sym (ap (λ b. answer (unless b 5 i (many (literal t) e.operand (i + 1)))) (lt-ltb 0 e.operand (omega (arith, z)))) ∙ head_goes t place.Literals 511 i e h after_literals
 
@@ -67,13 +63,7 @@ module _ (t : Table) (i : ℕ) (k : Kind) (o : ℕ) (e : Ok (entry (code_of k) o
   abbrev after : Kind → Result ℕ Fault
   after x = answer (clause_by t (entry (code_of x) o) (i + 1))
 
-  pub when_refused : k ≡ When → (f : Fault) → Err f ≡ answer (ground t 511 (i + 1)) → Err f ≡ answer (clause t i)
-  when_refused h f g = refused layer.Book (ground t 511 (i + 1)) (λ x m. then (literals t m) λ ls n. good (when x ls) n) f g ∙ ap after (sym h) ∙ to_clause
-
   pub when_goes : k ≡ When → (l : ℕ) → Ok l ≡ answer (ground t 511 (i + 1)) → answer (literals t l) ≡ answer (clause t i)
   when_goes h l g =
       let w = step_goes layer.Book (ground t 511 (i + 1)) (λ x m. then (literals t m) λ ls n. good (when x ls) n) l g in
       sym (handed_on layer.Book (literals t l) (when w.0)) ∙ w.2 ∙ ap after (sym h) ∙ to_clause
-
-  pub plain_goes : (k ≡ When → ⊥) → answer (literal_by t 511 (entry (code_of k) o) (i + 1)) ≡ answer (clause t i)
-  plain_goes h = rw (apart k When h) (sym (handed_on layer.Book (literal_by t 511 (entry (code_of k) o) (i + 1)) plain)) ∙ to_clause

@@ -1,5 +1,5 @@
 -- Whatever is read well goes on from where it began and ends inside the table.
-use Rattle.std.proofs.Common.{◌≡◌, ℕ, zero, suc, ◌+◌, ◌-◌, ◌<◌, ◌≤◌, Bool, true, false, cond, not, ◌&&◌, ◌||◌, eqb, ltb, leb, List, [], ◌∷◌, get_or, refl, arith}
+use Rattle.std.proofs.Common.{◌≡◌, ℕ, zero, suc, ◌+◌, ◌-◌, ◌<◌, ◌≤◌, Bool, true, false, cond, ◌||◌, eqb, ltb, leb, List, [], ◌∷◌, get_or, refl, arith}
 use Rattle.std.proofs.lemmas.Bool.{ltb-true, and_parts}
 use Rattle.table.specs.declared.places.Place.{Place}
 use Rattle.table.specs.declared.places.Place.TheVariants as place
@@ -8,9 +8,9 @@ use Rattle.table.specs.Reading.{Entry, Out, bad, good, then, unless, series, man
 use Rattle.model.specs.Trees.{Name}
 use Rattle.model.specs.Meaning.{Literal}
 use Rattle.model.specs.Settling.{Ground, negated, group}
-use Rattle.model.specs.Books.{Clause, plain, when, Action, Start}
+use Rattle.model.specs.Books.{plain, when, Start}
 use Rattle.book.specs.Tables.{Table, entry_at, most_levels, most_names, most_objects, in_range, head}
-use Rattle.book.specs.Reads.{start, is_listed, always_true, junction_of, grounds_of, leaf, ground_by, ground, literal_by, literal, literals, clause_by, clause, effect, is_object, objects, precedes, name, action}
+use Rattle.book.specs.Reads.{start, junction_of, grounds_of, leaf, ground_by, ground, literal_by, literal, literals, clause_by, clause, effect, is_object, objects, precedes, name, action}
 
 -- it is refused, or ends at place i or later, and inside the table
 abbrev pub Reaches : {A : Type 0} → Table → ℕ → Out A → Type 0
@@ -73,11 +73,6 @@ module _ (t : Table) where
   reaches_start low i =
       after_head place.Relevant most_levels i (λ e j. unless (leb low e.operand) 8 i (good (record { atom = e.operand; starts = eqb e.kind 19 }) j))
       (λ e j l h. reaches_unless {A = Start} (i + 1) (leb low e.operand) 8 i (good (record { atom = e.operand; starts = eqb e.kind 19 }) j) (λ _. (l, h)))
-
-  pub reaches_always : (low i : ℕ) → Reaches t (i + 1) (always_true t low i)
-  reaches_always low i =
-      after_head place.Always most_levels i (λ e j. unless (leb low e.operand && not (is_listed t e.operand)) 8 i (good e.operand j))
-      (λ e j l h. reaches_unless (i + 1) (leb low e.operand && not (is_listed t e.operand)) 8 i (good e.operand j) (λ _. (l, h)))
 
   -- Formulas.
   reaches_ground_by : (read : ℕ → Out Ground) → ((i : ℕ) → Reaches t (i + 1) (read i)) → (e : Entry) (j : ℕ) → j ≤ t.entries → Reaches t j (ground_by read e j)
@@ -148,24 +143,6 @@ module _ (t : Table) where
       (λ m j x _. reaches_then (j + 1) (i + 1) (ground t most_levels j) (λ g k. then (effect t k) λ cs l. good (record { name = m; precondition = g; effect = cs }) l) (reaches_ground most_levels j)
       (λ g k y _. reaches_made (k + 1) (i + 1) (effect t k) (λ cs. record { name = m; precondition = g; effect = cs }) (omega arith) (reaches_effect k)))
 
-  -- A formula, an effect and an action go on, and stay inside the table.
+  -- A formula goes on, and stays inside the table.
   pub ground_reaches : (levels i : ℕ) (g : Ground) (j : ℕ) → ground t levels i ≡ good g j → (i < j) × (j ≤ t.entries)
   ground_reaches levels i g j e = let w = reached t (i + 1) (ground t levels i) g j (reaches_ground levels i) e in (omega (arith, w.0), w.1)
-
-  pub literal_reaches : (i : ℕ) (l : Literal) (j : ℕ) → literal t i ≡ good l j → (i < j) × (j ≤ t.entries)
-  literal_reaches i l j e = let w = reached t (i + 1) (literal t i) l j (reaches_literal i) e in (omega (arith, w.0), w.1)
-
-  pub literals_reach : (i : ℕ) (ls : List Literal) (j : ℕ) → literals t i ≡ good ls j → (i < j) × (j ≤ t.entries)
-  literals_reach i ls j e = let w = reached t (i + 1) (literals t i) ls j (reaches_literals i) e in (omega (arith, w.0), w.1)
-
-  pub clause_reaches : (i : ℕ) (c : Clause) (j : ℕ) → clause t i ≡ good c j → (i < j) × (j ≤ t.entries)
-  clause_reaches i c j e = let w = reached t (i + 1) (clause t i) c j (reaches_clause i) e in (omega (arith, w.0), w.1)
-
-  pub effect_reaches : (i : ℕ) (cs : List Clause) (j : ℕ) → effect t i ≡ good cs j → (i < j) × (j ≤ t.entries)
-  effect_reaches i cs j e = let w = reached t (i + 1) (effect t i) cs j (reaches_effect i) e in (omega (arith, w.0), w.1)
-
-  pub name_reaches : (before : List ℕ) (i : ℕ) (m : Name) (j : ℕ) → name t before i ≡ good m j → (i < j) × (j ≤ t.entries)
-  name_reaches before i m j e = let w = reached t (i + 1) (name t before i) m j (reaches_name before i) e in (omega (arith, w.0), w.1)
-
-  pub action_reaches : (before : List ℕ) (i : ℕ) (a : Action) (j : ℕ) → action t before i ≡ good a j → (i < j) × (j ≤ t.entries)
-  action_reaches before i a j e = let w = reached t (i + 1) (action t before i) a j (reaches_action before i) e in (omega (arith, w.0), w.1)

@@ -1,25 +1,13 @@
 use Rattle.table.proofs.Lengths.{operands_long}
 use Rattle.std.proofs.Common.{◌<◌, ◌≤◌, Err, sym, ap, ◌∙◌, arith}
-use Rattle.table.proofs.Answering.{made_refused}
-use Rattle.table.specs.Entries.{coded}
 use Rattle.book.specs.Views.{table}
-use Rattle.book.proofs.Heading.{handed_back}
-use Rattle.book.proofs.Naming.{reached, objects_refused, name_good, name_bad, name_is}
+use Rattle.book.proofs.Naming.{reached, name_good, name_bad, name_is}
 use Rattle.book.proofs.names.check_name.Goals as goal
 use Rattle.book.proofs.names.check_name.Goals.{In_ok-end}
 
 -- the name ends after it begins, and inside the table
 forth : (c : In_ok-end) → (c.args.at < c.in_ok-end.end) × (c.in_ok-end.end ≤ c.args.table.now.sizes.entries)
 forth c = reached (table c.args.table.now) (operands_long c.args.table.now.entries c.args.table.now.whole) c.args.before.now c.args.at _ c.in_ok-end.end c.in_ok-head_at.ensures.inside c.in_ok-head_at.ensures.same c.in_ok-end.ensures
-
-pub returns-in_err-end : goal.returns-in_err-end
-returns-in_err-end c =
-    let e = handed_back c.from_residual-in_err-end.result _ c.from_residual-in_err-end.ensures.1 in
-    record {
-      same = e ∙ objects_refused (table c.args.table.now) c.args.before.now c.args.at (coded c.in_ok-head_at.field-0) c.in_ok-head_at.ensures.same c.in_err-end.field-0.0 c.in_err-end.ensures;
-      inside = made_refused _ _ _ e;
-      text = made_refused _ _ _ e;
-    }
 
 pub slice_bounds-precedes-count : goal.slice_bounds-precedes-count
 slice_bounds-precedes-count c = let r = forth ((goal.at.slice_bounds-precedes-count c).In_ok-end) in omega (arith, r.0)
@@ -33,13 +21,10 @@ slice_bounds-precedes-end c = let r = forth ((goal.at.slice_bounds-precedes-end 
 pub overflow_sub-end : goal.overflow_sub-end
 overflow_sub-end c = let r = forth ((goal.at.overflow_sub-end c).In_ok-end) in omega (arith, r.0)
 
-pub returns-then-not-precedes : goal.returns-then-not-precedes
-returns-then-not-precedes c =
-    record {
-      same = ap Err c.new.ensures ∙ name_bad (table c.args.table.now) (operands_long c.args.table.now.entries c.args.table.now.whole) c.args.before.now c.args.at _ c.in_ok-end.end c.in_ok-head_at.ensures.inside c.in_ok-head_at.ensures.same c.in_ok-end.ensures (sym c.if-not-precedes.ensures);
-      inside = tt;
-      text = tt;
-    }
+pub returns-then-not-precedes-clause-same : goal.returns-then-not-precedes-clause-same
+returns-then-not-precedes-clause-same c =
+    ap Err c.new.ensures
+    ∙ name_bad (table c.args.table.now) (operands_long c.args.table.now.entries c.args.table.now.whole) c.args.before.now c.args.at _ c.in_ok-end.end c.in_ok-head_at.ensures.inside c.in_ok-head_at.ensures.same c.in_ok-end.ensures (sym c.if-not-precedes.ensures)
 
 pub returns : goal.returns
 returns c =
