@@ -22,8 +22,9 @@ impl Scene<'_> {
         ensures value { result.0 ≡ value_in (state_in self.now) (ground (table_in self.now) levels at) }
         ensures end { result.1 ≡ next_place (ground (table_in self.now) levels at) }
     {
-        let operand = self.table.entries.operands[at];
-        match kind_at(self.table, at) {
+        let table = self.table;
+        let operand = table.entries.operands[at];
+        match kind_at(table, at) {
             Kind::True => (true, at + 1),
             Kind::Fact => (shows(self.image, operand), at + 1),
             Kind::Not => {

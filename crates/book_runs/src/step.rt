@@ -37,8 +37,9 @@ impl Scene<'_> {
         ensures size { S.extent store.new ≡ S.extent store.old }
         ensures set { S.facts store.new ≡ put_literals (S.extent store.old) adds (action_literals (state_in self.now) (items_in (effect (table_in self.now) at))) (S.facts store.old) }
     {
+        let table = self.table;
         let mut next = at + 1;
-        for _ in (0..self.table.entries.operands[at]).rev() {
+        for _ in (0..table.entries.operands[at]).rev() {
             next = self.put_clause(next, store, adds);
         }
     }
