@@ -1,5 +1,5 @@
 // Whether a store has the places that are asked for.
-ghost use Rattle.std.specs.Prelude.{◌≡◌, ◌<◌, OnOk};
+ghost use Rattle.std.specs.Prelude.{◌≡◌, ◌<◌, ◌≤◌, OnOk};
 ghost use Rattle.store.specs.Sets.{answered, placed};
 
 use crate::store::Store;
@@ -19,7 +19,8 @@ pub(crate) fn inside(size: u32, k: u32) -> Result<(), Fault>
 
 // Whether the store has places for the first n facts.
 pub fn has_places<S: Store>(store: &S, n: u32) -> Result<(), Fault>
-    ensures { result ≡ placed (S.extent store.now) n }
+    ensures answer { result ≡ placed (S.extent store.now) n }
+    ensures room { OnOk result (n ≤ S.extent store.now) }
 {
     if store.size() < n {
         Err(Fault::new(Cause::StoreTooSmall, Layer::Run, n.into()))

@@ -12,7 +12,7 @@ use crate::starts::put_starts;
 use book::Book;
 use fault::{Cause, Fault, Layer};
 use protocol::{Name, Run};
-use store::{Store, copy};
+use store::{Store, copy, has_places};
 
 impl<'b, 'a> Run for BookRun<'b, 'a> {
     type Of = &'b Book<'a>;
@@ -29,10 +29,7 @@ impl<'b, 'a> Run for BookRun<'b, 'a> {
         ensures subject { IfOk result (λ run. run.book ≡ book.entry) }
         ensures begun { record { set = S.facts store.new; answer = begun (λ (run : BookRun). run.steps) result } ≡ book_begin (tree_of book.now) (S.extent store.old) (S.facts store.old) }
     {
-        let facts = book.facts();
-        if store.size() < facts {
-            return Err(Fault::new(Cause::StoreTooSmall, Layer::Run, facts as u64));
-        }
+        has_places(store, book.facts())?;
         store.empty();
         put_starts(book, store);
         Ok(BookRun { book, steps: 0 })
@@ -68,10 +65,7 @@ impl<'b, 'a> Run for BookRun<'b, 'a> {
         ensures { result ≡ book_holds (tree_of self.now.book.now) (S.extent store.now) (S.facts store.now) atom }
     {
         let book = self.book;
-        let facts = book.facts();
-        if store.size() < facts {
-            return Err(Fault::new(Cause::StoreTooSmall, Layer::Run, facts as u64));
-        }
+        has_places(store, book.facts())?;
         if atom >= book.atoms() {
             return Err(Fault::new(Cause::NoSuchAtom, Layer::Run, atom as u64));
         }

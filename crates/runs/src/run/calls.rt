@@ -12,7 +12,7 @@ use crate::goal::{judge_goal, perform_operator};
 use adl::Task;
 use fault::{Cause, Fault, Layer};
 use protocol::{Name, Run};
-use store::{Store, copy, room_for};
+use store::{Store, copy, has_places, room_for};
 
 impl<'t, 'a> Run for TaskRun<'t, 'a> {
     type Of = &'t Task<'a>;
@@ -29,9 +29,7 @@ impl<'t, 'a> Run for TaskRun<'t, 'a> {
         ensures subject { IfOk result (λ run. run.task ≡ task.entry) }
         ensures begun { record { set = S.facts store.new; answer = begun (λ (run : TaskRun). run.steps) result } ≡ task_begin (tree_of task.now) (S.extent store.old) (S.facts store.old) }
     {
-        if store.size() < task.atoms {
-            return Err(Fault::new(Cause::StoreTooSmall, Layer::Run, task.atoms as u64));
-        }
+        has_places(store, task.atoms)?;
         store.empty();
         put_facts(task, store);
         Ok(TaskRun { task, steps: 0 })
@@ -69,9 +67,7 @@ impl<'t, 'a> Run for TaskRun<'t, 'a> {
         ensures { result ≡ task_holds (tree_of self.now.task.now) (S.extent store.now) (S.facts store.now) atom }
     {
         let atoms = self.task.atoms;
-        if store.size() < atoms {
-            return Err(Fault::new(Cause::StoreTooSmall, Layer::Run, atoms as u64));
-        }
+        has_places(store, atoms)?;
         if atom >= atoms {
             return Err(Fault::new(Cause::NoSuchAtom, Layer::Run, atom as u64));
         }

@@ -9,6 +9,6 @@ returns-in-Some g c =
     let b = c.args.self.now.book.now in
     c.has.ensures
     ∙ told_by_fact (tree_of b) (M.extent c.args.store.now) (M.facts c.args.store.now) c.args.atom
-    (omega (arith, c.if-size-facts.false, c.size.ensures, c.facts-facts.ensures))
+    (omega (arith, c.in_ok-has_places.ensures.room, c.facts.ensures))
     (omega (arith, c.if-atom-atoms.false, c.atoms.ensures))
     c.in-Some.fact c.in-Some.ensures
