@@ -1,8 +1,8 @@
 -- The numbers of atoms: how many come before a predicate's, and the digits of an atom's arguments.
-use Rattle.std.proofs.Common.{◌≡◌, ℕ, zero, suc, ◌+◌, ◌*◌, ◌^◌, ◌<◌, ◌≤◌, Bool, true, false, cond, ◌&&◌, leb, List, [], ◌∷◌, ◌++◌, length, get_or, take, Some, None, sym, ap, ◌∙◌, mul_assoc, mul_comm, add-mul, mul-le-mul_left, zero-mul, mul-one, add-one, arith}
+use Rattle.std.proofs.Common.{◌≡◌, ℕ, zero, suc, ◌+◌, ◌*◌, ◌^◌, ◌<◌, ◌≤◌, cond, ◌&&◌, leb, List, [], ◌∷◌, ◌++◌, length, get_or, take, Option, Some, None, sym, ap, ◌∙◌, mul_assoc, mul_comm, add-mul, mul-le-mul_left, zero-mul, mul-one, add-one, arith}
 use Rattle.std.proofs.Math.Nat.{pow-succ', pow-zero, pow-le-pow_right}
 use Rattle.std.proofs.lemmas.List.{length_push}
-use Rattle.std.proofs.lemmas.Bool.{le-leb, and_from}
+use Rattle.std.proofs.lemmas.Bool.{le-leb, and_from, cond-true}
 use Rattle.model.specs.Trees.{digits, atoms_of}
 
 -- the atoms of one more predicate
@@ -22,19 +22,8 @@ atoms_most n (a ∷ ks) zero = omega arith
 atoms_most n (a ∷ ks) (suc p) = omega (arith, atoms_most n ks p)
 
 -- a power of few factors below 33 is there
-found : (b : Bool) (x own : ℕ) → b ≡ true → Some own ≡ cond b (Some x) None → own ≡ x
-found true x own h e = cc
-found false x own h e = cc
-
-missed : (b : Bool) (x : ℕ) → b ≡ true → None ≡ cond b (Some x) None → ⊥
-missed true x h e = let z : ◌≡◌ {A = ℕ} 0 1 = cc in omega arith
-missed false x h e = let z : ◌≡◌ {A = ℕ} 0 1 = cc in omega arith
-
-pub power_is : (n k own : ℕ) → n ≤ 32 → k ≤ 4 → Some own ≡ cond (leb n 32 && leb k 4) (Some (n ^ k)) None → own ≡ n ^ k
-power_is n k own h l e = found (leb n 32 && leb k 4) (n ^ k) own (and_from _ _ (le-leb n 32 h) (le-leb k 4 l)) e
-
-pub power_there : (n k : ℕ) → n ≤ 32 → k ≤ 4 → None ≡ cond (leb n 32 && leb k 4) (Some (n ^ k)) None → ⊥
-power_there n k h l e = missed (leb n 32 && leb k 4) (n ^ k) (and_from _ _ (le-leb n 32 h) (le-leb k 4 l)) e
+pub power_is : (n k : ℕ) (r : Option ℕ) → n ≤ 32 → k ≤ 4 → r ≡ cond (leb n 32 && leb k 4) (Some (n ^ k)) None → r ≡ Some (n ^ k)
+power_is n k r h l e = e ∙ cond-true (leb n 32 && leb k 4) (Some (n ^ k)) None (and_from _ _ (le-leb n 32 h) (le-leb k 4 l))
 
 -- one more argument
 pub digits_push : (n : ℕ) (os : List ℕ) (o : ℕ) → digits n (os ++ (o ∷ [])) ≡ digits n os * n + o

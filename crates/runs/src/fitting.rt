@@ -21,7 +21,8 @@ fn is_member(task: &Task, type_number: u32, object: u32) -> bool
 }
 
 // Whether the objects are of the types of as many parameters, which stand from place `at` on.
-// A chain of zip and all would need a slice of the operands first, and the bounds of each call in its closure.
+// Tried, zip and all over a slice of the operands: the slice's end, what each call in the closure asks (`all-requires`) and the result
+// stay open.
 fn are_typed(task: &Task, at: usize, objects: &[u32]) -> bool
     requires { (tys : List ℕ) × (j : ℕ) × (many (parameter (held task.now)) (length objects.now) at ≡ good tys j) }
     ensures { (tys : List ℕ) (j : ℕ) → many (parameter (held task.now)) (length objects.now) at ≡ good tys j → result ≡ typed (tree_of task.now) tys objects.now }

@@ -17,24 +17,18 @@ pub(crate) fn kind_at(task: &Task, at: usize) -> Kind
     requires known { slice_index task.now.table.entries.kinds.now at < 22 }
     ensures { code_of result ≡ slice_index task.now.table.entries.kinds.now at }
 {
-    match Kind::try_from(task.table.entries.kinds[at]) {
-        Ok(kind) => kind,
-        Err(_) => unreachable(),
-    }
+    Kind::try_from(task.table.entries.kinds[at]).unwrap()
 }
 
 // The number of a predicate's first atom.
-// A sum of a map would leave its bound to a proof by hand over every run of the chain.
+// Tried, the sum of a map: what each call in its closure asks and the bound of each partial sum (`sum-requires`) stay open.
 fn first_atom(task: &Task, predicate: u32) -> u32
     requires { predicate ≤ task.now.table.sizes.predicates }
     ensures { result ≡ atoms_of (tree_of task.now).objects (take predicate (tree_of task.now).arities) }
 {
     let mut first = 0;
     for p in 0..predicate {
-        let own = match power(task.table.sizes.objects, task.table.arity(p)) {
-            Some(own) => own,
-            None => unreachable(),
-        };
+        let own = power(task.table.sizes.objects, task.table.arity(p)).unwrap();
         first += own;
     }
     first

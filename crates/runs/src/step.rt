@@ -34,7 +34,8 @@ impl Scene<'_, '_> {
     {
         let mut from = 0;
         loop {
-            let window = self.literals_from(at, from);
+            let mut window = Window::fresh(from);
+            self.walk(at, &mut window);
             put_window(store, &window, adds);
             if window.len < 64 {
                 return;

@@ -1,12 +1,12 @@
 // Finding the literals of an effect over the table and the image alone.
-ghost use Rattle.std.specs.Prelude.{◌≡◌, ℕ, ◌+◌, ◌<◌, ◌≤◌, List, length, take, drop, fold};
+ghost use Rattle.std.specs.Prelude.{◌≡◌, ℕ, ◌+◌, ◌<◌, ◌≤◌, List, fold};
 ghost use Rattle.model.specs.Lists.{gather};
 ghost use Rattle.model.specs.Meaning.{bind, ground};
 ghost use Rattle.model.specs.Trees.{Change, Consequent, Effect, members};
 ghost use Rattle.runs.specs.Effects.{ChangeIn, ConsequentIn, ConsequentsIn, EffectAt, EffectIn, EffectsIn, meant, consequent_literals, consequents_literals, effect_literals, literals_in, all_literals_in};
 ghost use Rattle.protocol.specs.Shown.{shown};
 ghost use Rattle.runs.specs.Shown.{bound};
-ghost use Rattle.runs.specs.Windows.{offered, kept};
+ghost use Rattle.runs.specs.Windows.{offered};
 ghost use Rattle.adl.specs.Held.{held, tree_of};
 
 use crate::numbering::kind_at;
@@ -72,7 +72,7 @@ impl Sheet<'_, '_> {
 impl Scene<'_, '_> {
     // Offers the literals of the effect at place `at` to the window, every WHEN judged in the image, and tells the place after it.
     #[cycle(walking)]
-    fn walk(&mut self, at: usize, window: &mut Window) -> usize
+    pub(crate) fn walk(&mut self, at: usize, window: &mut Window) -> usize
         requires { (e : Effect) × (j : ℕ) × EffectIn self.old at e j }
         ensures same { self.new ≡ self.old }
         ensures walked { (e : Effect) (j : ℕ) → EffectIn self.old at e j → (window.new ≡ fold offered window.old (literals_in self.old e)) × (result ≡ j) }
@@ -140,18 +140,5 @@ impl Scene<'_, '_> {
                 bound.scene.walk(at, window);
             }
         }
-    }
-
-    // The literals of the effect at place `at` from number `from` on, as many as a window holds.
-    pub(crate) fn literals_from(&mut self, at: usize, from: usize) -> Window
-        requires { (e : Effect) × (j : ℕ) × EffectIn self.old at e j }
-        ensures same { self.new ≡ self.old }
-        ensures few { result.len ≤ 64 }
-        ensures counted { result.len ≡ length (kept result) }
-        ensures found { (e : Effect) (j : ℕ) → EffectIn self.old at e j → kept result ≡ take 64 (drop from (literals_in self.old e)) }
-    {
-        let mut found = Window::fresh(from);
-        self.walk(at, &mut found);
-        found
     }
 }
