@@ -4,7 +4,7 @@ pub mod Sheets
 pub mod Junctions
 pub mod EffectShapes
 pub mod Walks
-pub mod Sinks
+pub mod Filling
 pub mod Beginning
 pub mod Performing
 pub mod Bounds

@@ -19,7 +19,7 @@ use Rattle.adl_theorems.proofs.Standing.{declarations_inside}
 use Rattle.runs.proofs.EffectShapes.{no_effect_left, effect_begins, effect_kind, effect_ends_after, at_conjunction, at_for_each, at_when, at_change, first_effect}
 use Rattle.runs.proofs.Sheets.{restored, effect_seen, literals_seen}
 use Rattle.runs.specs.Windows.{offered, packed}
-use Rattle.runs.proofs.Sinks.{packed_stays}
+use Rattle.runs.proofs.Filling.{packed_stays}
 use Rattle.runs.proofs.Walks.{none_kept, with_member, without_member, stops, members_in, from_effect, first_effect_and_rest, for_members, when_true, when_false}
 use Rattle.runs.proofs.sheet.Scene.+walking.Goals as goal
 use Rattle.runs.proofs.sheet.Scene.+walking.Goals.{walk_each-then-members-o-eq1+else-is_packed, walk_each-else-members-o-eq1}

@@ -10,7 +10,7 @@ use Rattle.runs.specs.Windows.{offered, kept}
 use Rattle.protocol.specs.Steps.{put_literals}
 use Rattle.runs.proofs.Bounds.{few_literals}
 use Rattle.adl_theorems.proofs.Standing.{same_objects}
-use Rattle.runs.proofs.Sinks.{fresh_filled}
+use Rattle.runs.proofs.Filling.{fresh_filled}
 use Rattle.runs.proofs.Puts.{put_window, put_last, full}
 use Rattle.runs.proofs.sheet.Scene.put_effect.Given as given
 use Rattle.runs.proofs.sheet.Scene.put_effect.Goals as goal
