@@ -1,7 +1,5 @@
 -- A step over an image that a copy has filled.
-use Rattle.std.proofs.Common.{◌≡◌, ℕ, ◌+◌, ◌<◌, ◌≤◌, true, false, cond, ltb, List, map, length, drop, Ok, sym, ap, ◌∙◌, arith, length-append}
-use Rattle.std.specs.List.{range_with_len}
-use Rattle.std.proofs.lemmas.List.FromFn.{length-map-range_with_len}
+use Rattle.std.proofs.Common.{◌≡◌, ℕ, ◌+◌, ◌<◌, true, false, ltb, List, length, Ok, sym, ap, ◌∙◌}
 use Rattle.std.proofs.lemmas.Bool.{cond-true, cond-false, lt-ltb}
 use Rattle.model.specs.Trees.{Name}
 use Rattle.model.specs.Meaning.{State}
@@ -21,12 +19,6 @@ module _ (size n : ℕ) (s : State) (im seen : List ℕ) (room : Ok tt ≡ copie
 
   pictures : seen ≡ pictured n s im
   pictures = filled ∙ cond-false (ltb size n) im _ fits.0 ∙ cond-false (ltb (length im) n) im (pictured n s im) fits.1
-
-  -- the image has a byte for each fact
-  pub long_enough : n ≤ length seen
-  long_enough =
-      let f : ℕ → ℕ = λ k. cond (s k) 1 0 in
-      omega (arith, ap length pictures, length-append (map f (range_with_len 0 n)) (drop n im), length-map-range_with_len f 0 n)
 
 -- a step of a book over the image that a copy has filled
 module _ (b : Book) (size n a : ℕ) (s u : State) (im seen : List ℕ) (m : Name) (few : n < 65535) (count : a ≡ facts b) (room : Ok tt ≡ copied size (length im) a) (filled : seen ≡ after_copy size a s im) where

@@ -15,7 +15,6 @@ use store::Store;
 
 // Judges the precondition of the action with this name in the image and, if it is true, takes the step; tells whether.
 pub(crate) fn perform_action<S: Store>(book: &Book, image: &[u8], name: Name, store: &mut S) -> bool
-    requires { book.now.table.sizes.relevant ≤ length image.now }
     ensures size { S.extent store.new ≡ S.extent store.old }
     ensures judged { result ≡ is_taken (shown image.now) (find (name_of name.entry) (tree_of book.now).actions) }
     ensures set { S.facts store.new ≡ (if result then put_step (S.extent store.old) (literals_taken (shown image.now) (find (name_of name.entry) (tree_of book.now).actions)) (S.facts store.old) else S.facts store.old) }

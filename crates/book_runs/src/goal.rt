@@ -9,7 +9,6 @@ use book::Book;
 
 // The value of the goal in the image.
 pub(crate) fn judge_goal(book: &Book, image: &[u8]) -> bool
-    requires { book.now.table.sizes.relevant ≤ length image.now }
     ensures { result ≡ ground_value (shown image.now) (tree_of book.now).goal }
 {
     let sizes = book.table.sizes;

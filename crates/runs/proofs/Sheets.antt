@@ -51,14 +51,8 @@ module _ (a : Sheet) where
 
 -- and scenes with equal sheets and the same image
 module _ (a : Scene) where
-  with_fact : (h : a.sheet.task.now.atoms ≤ length a.image.now) → a ≡ record { sheet = a.sheet; image = a.image; seen = h }
-  with_fact h = ap (λ x. record { sheet = a.sheet; image = a.image; seen = x }) (le_prop a.seen h)
-
-  with_sheet : (s : Sheet) → a.sheet ≡ s → (h : s.task.now.atoms ≤ length a.image.now) → a ≡ record { sheet = s; image = a.image; seen = h }
-  with_sheet s p = subst (λ (s : Sheet). (h : s.task.now.atoms ≤ length a.image.now) → a ≡ record { sheet = s; image = a.image; seen = h }) p with_fact
-
   pub same_scene : (b : Scene) → a.sheet ≡ b.sheet → a.image ≡ b.image → a ≡ b
-  same_scene b p q = subst (λ (i : Bor (List ℕ)). (h : b.sheet.task.now.atoms ≤ length i.now) → a ≡ record { sheet = b.sheet; image = i; seen = h }) q (with_sheet b.sheet p) b.seen
+  same_scene b p q = ap (λ s. record { sheet = s; image = a.image }) p ∙ ap (λ (i : Bor (List ℕ)). record { sheet = b.sheet; image = i }) q
 
 -- a scene in which one more variable was bound for a while is as it was
 pub restored : {a b d : Scene} {o before : ℕ} (c : Scene) → OneMore a o b → before ≡ get_or a.sheet.objects a.sheet.depth 0 → c ≡ b → OneLess c before d → d ≡ a

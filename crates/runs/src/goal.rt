@@ -1,5 +1,5 @@
 // The goal and the operators of a loaded task, by the places that the record keeps.
-ghost use Rattle.std.specs.Prelude.{◌≡◌, ℕ, ◌<◌, ◌≤◌, true, [], length, if◌then◌else◌};
+ghost use Rattle.std.specs.Prelude.{◌≡◌, ℕ, ◌<◌, ◌≤◌, true, [], if◌then◌else◌};
 ghost use Rattle.model.specs.Meaning.{value, fits, precondition_of, effect_of, literals_where};
 ghost use Rattle.protocol.specs.Names.{name_of};
 ghost use Rattle.protocol.specs.Shown.{shown};
@@ -13,7 +13,6 @@ use store::Store;
 
 // The value of the goal in the image.
 pub(crate) fn judge_goal(task: &Task, image: &[u8]) -> bool
-    requires { task.now.atoms ≤ length image.now }
     ensures { result ≡ value (tree_of task.now) (shown image.now) [] (tree_of task.now).goal }
 {
     let sheet = Sheet::of(task, &[]);
@@ -29,8 +28,7 @@ pub(crate) fn perform_operator<S: Store>(
     name: Name,
     store: &mut S,
 ) -> bool
-    requires image { task.now.atoms ≤ length image.now }
-    requires fits { fits (tree_of task.now) (name_of name) ≡ true }
+    requires { fits (tree_of task.now) (name_of name) ≡ true }
     ensures size { S.extent store.new ≡ S.extent store.old }
     ensures judged { result ≡ value (tree_of task.now) (shown image.now) (name_of name.entry).objects (precondition_of (tree_of task.now) (name_of name.entry)) }
     ensures set { S.facts store.new ≡ (if result then put_step (S.extent store.old) (literals_where (value (tree_of task.now) (shown image.now)) (effect_of (tree_of task.now) (name_of name.entry))) (S.facts store.old) else S.facts store.old) }

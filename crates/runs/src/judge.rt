@@ -1,5 +1,5 @@
 // Judging formulas over an image of the state.
-ghost use Rattle.std.specs.Prelude.{◌≡◌, ℕ, ◌+◌, ◌<◌, ◌≤◌, List, length};
+ghost use Rattle.std.specs.Prelude.{◌≡◌, ℕ, ◌+◌, ◌<◌, ◌≤◌, List};
 ghost use Rattle.model.specs.Meaning.{bind, over, value};
 ghost use Rattle.model.specs.Trees.{Formula, members};
 ghost use Rattle.runs.specs.Standing.{FormulaAt};
@@ -10,15 +10,8 @@ ghost use Rattle.adl.specs.Held.{held, tree_of};
 use crate::numbering::kind_at;
 use crate::sheet::{Bound, Scene};
 use crate::skip::{skip, skip_all};
+use protocol::shows;
 use table::Kind;
-
-// Whether the image shows the atom.
-fn shows(image: &[u8], atom: u32) -> bool
-    requires { atom < length image.now }
-    ensures { result ≡ shown image.now atom }
-{
-    image[atom as usize] % 2 == 1
-}
 
 impl Scene<'_, '_> {
     // The value of the formula at place `at`, and the place after it.

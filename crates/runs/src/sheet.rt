@@ -37,12 +37,11 @@ impl<'s, 'a> Sheet<'s, 'a> {
     }
 }
 
-// A sheet, and an image that shows every atom of its task.
+// A sheet, and an image of the state.
 #[derive(Drop)]
 pub(crate) struct Scene<'s, 'a> {
     pub(crate) sheet: Sheet<'s, 'a>,
     pub(crate) image: &'s [u8],
-    ghost seen: { sheet.task.now.atoms ≤ length image.now },
 }
 
 impl Scene<'_, '_> {

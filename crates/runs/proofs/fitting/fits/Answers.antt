@@ -1,5 +1,5 @@
 use Rattle.table.proofs.Lengths.{operands_long}
-use Rattle.std.proofs.Common.{◌+◌, get_or, sym, ap, ◌∙◌, arith}
+use Rattle.std.proofs.Common.{◌+◌, sym, ap, ◌∙◌, arith}
 use Rattle.table.specs.Reading.{many}
 use Rattle.adl.specs.Held.{held, tree_of}
 use Rattle.protocol.specs.Names.{name_of}

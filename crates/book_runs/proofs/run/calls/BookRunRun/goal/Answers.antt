@@ -1,22 +1,10 @@
-use Rattle.std.proofs.Common.{◌≡◌, Ok, ◌∙◌, arith, rules}
+use Rattle.std.proofs.Common.{◌≡◌, Ok, ◌∙◌, rules}
 use Rattle.book.specs.Held.{tree_of}
 use Rattle.protocol.specs.Machines.{Judged}
 use Rattle.book_runs.specs.Runs.{goal_by_image}
-use Rattle.book_runs.proofs.Filling.{long_enough}
-use Rattle.book_runs.proofs.Opened.{fact_count, well_formed}
+use Rattle.book_runs.proofs.Opened.{well_formed}
 use Rattle.book_runs.proofs.Performing.{judges_the_goal}
 use Rattle.book_runs.proofs.run.calls.BookRunRun.goal.Goals as goal
-
-pub judge_goal-requires : goal.judge_goal-requires
-judge_goal-requires g c =
-    let m = g.S.Store in
-    let e = c.in_ok-copy.ensures in
-    omega (
-      arith,
-      long_enough (m.extent c.args.store.now) c.facts.result (m.facts c.args.store.now) c.args.image.now c.copy.new.image e.answer e.image,
-      fact_count c.args.self.now.book.now,
-      c.facts.ensures,
-    )
 
 pub returns : goal.returns
 returns g c =

@@ -2,21 +2,10 @@ use Rattle.std.proofs.Common.{Err, ap, ◌∙◌, arith}
 use Rattle.fault.specs.declared.Fault.{Fault}
 use Rattle.book.specs.Held.{tree_of}
 use Rattle.protocol.specs.Names.{name_of}
-use Rattle.book_runs.proofs.Filling.{long_enough, step_taken, step_refused}
-use Rattle.book_runs.proofs.Opened.{fact_count, well_formed}
+use Rattle.book_runs.proofs.Filling.{step_taken, step_refused}
+use Rattle.book_runs.proofs.Opened.{well_formed}
 use Rattle.book_runs.proofs.Performing.{takes_the_step}
 use Rattle.book_runs.proofs.run.calls.BookRunRun.perform.Goals as goal
-
-pub perform_action-requires : goal.perform_action-requires
-perform_action-requires g c =
-    let m = g.S.Store in
-    let e = c.in_ok-copy.ensures in
-    omega (
-      arith,
-      long_enough (m.extent c.args.store.now) c.facts.result (m.facts c.args.store.now) c.args.image.now c.copy.new.image e.answer e.image,
-      fact_count c.args.self.now.book.now,
-      c.facts.ensures,
-    )
 
 pub returns-then-not-perform_action-clause-performed : goal.returns-then-not-perform_action-clause-performed
 returns-then-not-perform_action-clause-performed g c =
