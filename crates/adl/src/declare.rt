@@ -17,6 +17,7 @@ use table::{Place, power};
 fn check_row(table: &TaskTable, place: Place, count: u32, at: usize) -> Result<usize, Fault>
     ensures { result ≡ answer (many (operand_at (table_in table.now) place) count at) }
 {
+    // counted by hand: nothing says that `at + count` fits
     let mut next = at;
     for _ in 0..count {
         let _ = Reader::outermost(table, 0, next).head_at(place, next)?;
@@ -132,6 +133,7 @@ pub(crate) fn check_operators(table: &TaskTable, at: usize) -> Result<Operators,
         places: [none; 32],
         end: at,
     };
+    // by index: the proof of a loop over iter_mut would not know what it has written
     for i in 0..table.sizes.operators as usize {
         let one = check_operator(table, all.end)?;
         all.places[i] = OperatorPlaces {

@@ -180,7 +180,7 @@ impl<'t, 'a> Reader<'t, 'a> {
         }
     }
 
-    // The effect at place `at`.
+    // The effect at place `at`. Consequents are read by a function of their own: their grammar is a smaller one, of other trees.
     pub(crate) fn check_effect(&self, room: u32, at: usize) -> Result<usize, Fault>
         ensures { result ≡ answer (effect (table_read self.now) room (around_in self.now) at) }
     {

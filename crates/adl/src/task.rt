@@ -16,6 +16,7 @@ pub struct Task<'a> {
     pub atoms: u32,
     // where the goal begins
     pub goal_at: usize,
+    // as many places as a task may have operators, since nothing here allocates
     pub operators: [OperatorPlaces; 32],
     ghost formed: { accepted (table_in table) ≡ true },
     ghost counted: { atoms ≡ atoms_in (task_of (table_in table)) },

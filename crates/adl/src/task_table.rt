@@ -9,6 +9,8 @@ use crate::sizes::Sizes;
 use fault::{Fault, Layer};
 use table::Entries;
 
+// A struct of its own beside that of books: one over any sizes could not derive Clone, and would hold its limits as one fact that no search
+// opens.
 #[derive(Clone, Copy)]
 pub struct TaskTable<'a> {
     pub sizes: Sizes,

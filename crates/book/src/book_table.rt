@@ -8,6 +8,8 @@ use crate::sizes::Sizes;
 use fault::{Fault, Layer};
 use table::Entries;
 
+// A struct of its own beside that of tasks: one over any sizes could not derive Clone, and would hold its limits as one fact that no search
+// opens.
 #[derive(Clone, Copy)]
 pub struct BookTable<'a> {
     pub sizes: Sizes,

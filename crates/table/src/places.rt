@@ -54,7 +54,8 @@ struct Row {
     kinds: [bool; 22],
 }
 
-// A row for each place, in the order of the places.
+// A row for each place, in the order of the places. Written out: the project wants one constant table with a row for each place and a column
+// for each kind.
 const PERMITS: [Row; 19] = [
     // TypeSet: TypeSet
     Row {

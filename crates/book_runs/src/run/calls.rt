@@ -14,6 +14,7 @@ use fault::{Cause, Fault, Layer};
 use protocol::{Name, Run};
 use store::{Store, copy, has_places};
 
+// A task's run has calls of its own: it tests whether a name fits before it fills the image, and asks other things of its subject.
 impl<'b, 'a> Run for BookRun<'b, 'a> {
     type Of = &'b Book<'a>;
 

@@ -14,6 +14,7 @@ use fault::{Cause, Fault, Layer};
 use protocol::{Name, Run};
 use store::{Store, copy, has_places, room_for};
 
+// A book's run has calls of its own: this one tests whether a name fits before it fills the image, and asks other things of its subject.
 impl<'t, 'a> Run for TaskRun<'t, 'a> {
     type Of = &'t Task<'a>;
 
