@@ -1,19 +1,12 @@
 -- What a reading at a place of a book's table comes to.
 use Rattle.std.specs.Prelude.{ℕ, ◌+◌, Bool, true, false, cond, List, [], ◌==◌, slice_index}
 use Rattle.table.specs.Reading.{Out, bad, good}
-use Rattle.model.specs.Trees.{Junction, all, any}
+use Rattle.model.specs.Trees.{Junction}
 use Rattle.model.specs.Meaning.{State, Literal}
 use Rattle.model.specs.Settling.{Ground, ground_value, ground_values}
 use Rattle.model.specs.Books.{Clause, clause_literals}
 use Rattle.book.specs.Tables.{Table}
 use Rattle.book.specs.Reads.{grounds_of}
-use Rattle.book_runs.specs.declared.junction.Junction as code
-use Rattle.book_runs.specs.declared.junction.Junction.TheVariants.{All, Any}
-
--- what a junction of the code stands for
-abbrev pub joining : code.Junction → Junction
-joining All = all
-joining Any = any
 
 -- the value of the formula that was read
 abbrev pub value_in : State → Out Ground → Bool

@@ -4,13 +4,13 @@ ghost use Rattle.table.specs.Answers.{is_good};
 ghost use Rattle.table.specs.Reading.{many, next_place};
 ghost use Rattle.book.specs.Reads.{ground};
 ghost use Rattle.book_runs.specs.Scenes.{state_in, table_in};
-ghost use Rattle.book_runs.specs.Standing.{joining, value_in, values_in};
+ghost use Rattle.protocol.specs.Junctions.{joining};
+ghost use Rattle.book_runs.specs.Standing.{value_in, values_in};
 
 use crate::entries::kind_at;
-use crate::junction::Junction;
 use crate::scene::Scene;
 use crate::skip::skip_all;
-use protocol::shows;
+use protocol::{Junction, shows};
 use table::Kind;
 
 impl Scene<'_> {

@@ -5,7 +5,6 @@ mod action;
 mod entries;
 mod goal;
 mod judge;
-mod junction;
 mod literals;
 mod names;
 mod run;

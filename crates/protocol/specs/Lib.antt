@@ -5,3 +5,4 @@ pub mod Machines
 pub mod Texts
 pub mod TaskCalls
 pub mod BookCalls
+pub mod Junctions

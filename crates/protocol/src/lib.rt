@@ -4,10 +4,12 @@
 mod answering;
 mod calls;
 mod image;
+mod junction;
 mod name;
 mod run;
 
 pub use calls::{Answer, Call};
 pub use image::shows;
+pub use junction::Junction;
 pub use name::Name;
 pub use run::Run;

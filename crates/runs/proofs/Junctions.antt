@@ -1,15 +1,14 @@
 -- Values of junctions: one that differs from what is asked for decides, and otherwise it is as asked for.
-use Rattle.std.proofs.Common.{◌≡◌, ℕ, ◌<◌, Bool, true, false, not, ◌&&◌, ◌||◌, List, [], ◌∷◌, get_or, sym, refl, ap, ◌∙◌, inl, inr, arith}
+use Rattle.std.proofs.Common.{◌≡◌, ℕ, ◌<◌, Bool, true, false, not, ◌&&◌, ◌||◌, List, [], ◌∷◌, get_or, sym, refl, ap, ◌∙◌, subst, inl, inr, arith}
 use mathlib.Core.Bool.{beq}
 use Rattle.model.specs.Lists.{In, below}
 use Rattle.model.specs.Trees as tree
-use Rattle.model.specs.Trees.{all, any, Formula, negation, implication, in_set, members}
-use Rattle.model.specs.Meaning.{State, join, over, value, values}
+use Rattle.model.specs.Trees.{Junction, all, any, Formula, negation, implication, in_set, members}
+use Rattle.model.specs.Meaning.{State, empty, join, over, value, values}
 use Rattle.model.proofs.Members.{in_keep, keep_out, in_below, below_out}
 use Rattle.adl.specs.Tables.{Table}
 use Rattle.adl.specs.Loads.{accepted, task_of}
 use Rattle.adl.specs.Reads.{formulas_of}
-use Rattle.runs.specs.Shown.{junction_for}
 use Rattle.adl_theorems.proofs.Standing.{same_objects, type_at}
 
 -- values that do not differ are equal
@@ -19,40 +18,44 @@ agree true false e = cc
 agree false true e = cc
 agree false false e = refl
 
--- the first of two values decides where it is not b
-join_differs : (b v w : Bool) → not (beq v b) ≡ true → join (junction_for b) v w ≡ v
-join_differs true true w e = cc
-join_differs true false w e = refl
-join_differs false true w e = refl
-join_differs false false w e = cc
+-- the first of two values decides where it is not that of none
+join_differs : (j : Junction) (v w : Bool) → not (beq v (empty j)) ≡ true → join j v w ≡ v
+join_differs all true w e = cc
+join_differs all false w e = refl
+join_differs any true w e = refl
+join_differs any false w e = cc
 
--- and the second where it is b
-join_agrees : (b v w : Bool) → v ≡ b → join (junction_for b) v w ≡ w
-join_agrees true v w e = ap (λ x. x && w) e
-join_agrees false v w e = ap (λ x. x || w) e
+-- and the second where it is
+join_agrees : (j : Junction) (v w : Bool) → v ≡ empty j → join j v w ≡ w
+join_agrees all v w e = ap (λ x. x && w) e
+join_agrees any v w e = ap (λ x. x || w) e
 
--- the second decides where it is not b
-join_last : (b v w u : Bool) → not (beq v b) ≡ true → u ≡ v → join (junction_for b) w u ≡ v
-join_last true true w u e h = cc
-join_last true false true u e h = h
-join_last true false false u e h = refl
-join_last false true true u e h = refl
-join_last false true false u e h = h
-join_last false false w u e h = cc
+-- the second decides where it is not that of none
+join_last : (j : Junction) (v w u : Bool) → not (beq v (empty j)) ≡ true → u ≡ v → join j w u ≡ v
+join_last all true w u e h = cc
+join_last all false true u e h = h
+join_last all false false u e h = refl
+join_last any true true u e h = refl
+join_last any true false u e h = h
+join_last any false w u e h = cc
 
--- where each object gives b, they give b together
-pub over_all : (b : Bool) (P : ℕ → Bool) (os : List ℕ) → ((o : ℕ) → In o os → P o ≡ b) → over (junction_for b) P os ≡ b
-over_all true P [] h = refl
-over_all false P [] h = refl
-over_all b P (o ∷ os) h = join_agrees b (P o) (over (junction_for b) P os) (h o (inl refl)) ∙ over_all b P os (λ x i. h x (inr i))
+-- b is the value of none
+module _ (j : Junction) (b : Bool) (none : b ≡ empty j) where
+  differs : (v : Bool) → not (beq v b) ≡ true → not (beq v (empty j)) ≡ true
+  differs v d = subst (λ x. not (beq v x) ≡ true) none d
 
--- one object that does not give b decides
-pub over_one : (b v : Bool) (P : ℕ → Bool) (os : List ℕ) (o : ℕ) → In o os → P o ≡ v → not (beq v b) ≡ true → over (junction_for b) P os ≡ v
-over_one b v P [] o i p d = absurd i
-over_one b v P (x ∷ os) o (inl e) p d =
-    let q : P x ≡ v = sym (ap P e) ∙ p in
-    ap (λ y. join (junction_for b) y (over (junction_for b) P os)) q ∙ join_differs b v (over (junction_for b) P os) d
-over_one b v P (x ∷ os) o (inr i) p d = join_last b v (P x) (over (junction_for b) P os) d (over_one b v P os o i p d)
+  -- where each object gives b, they give b together
+  pub over_all : (P : ℕ → Bool) (os : List ℕ) → ((o : ℕ) → In o os → P o ≡ b) → over j P os ≡ b
+  over_all P [] h = sym none
+  over_all P (o ∷ os) h = join_agrees j (P o) (over j P os) (h o (inl refl) ∙ none) ∙ over_all P os (λ x i. h x (inr i))
+
+  -- one object that does not give b decides
+  pub over_one : (v : Bool) (P : ℕ → Bool) (os : List ℕ) (o : ℕ) → In o os → P o ≡ v → not (beq v b) ≡ true → over j P os ≡ v
+  over_one v P [] o i p d = absurd i
+  over_one v P (x ∷ os) o (inl e) p d =
+      let q : P x ≡ v = sym (ap P e) ∙ p in
+      ap (λ y. join j y (over j P os)) q ∙ join_differs j v (over j P os) (differs v d)
+  over_one v P (x ∷ os) o (inr i) p d = join_last j v (P x) (over j P os) (differs v d) (over_one v P os o i p d)
 
 -- the members of a type, by the set that the table has
 module _ (t : Table) (h : accepted t ≡ true) (ty : ℕ) (l : ty < t.types) where
@@ -80,19 +83,19 @@ module _ (t : tree.Task) (s : State) (sheet : List ℕ) where
   pub implied : (f g h : Formula) (a b r : Bool) → f ≡ implication g h → a ≡ value t s sheet g → b ≡ value t s sheet h → r ≡ (not a || b) → r ≡ value t s sheet f
   implied f g h a b r e p q z = z ∙ ap (λ x. not x || b) p ∙ ap (λ x. not (value t s sheet g) || x) q ∙ sym (ap (value t s sheet) e)
 
-  -- a first part that decides
-  pub decided : (b v : Bool) (f : Formula) (gs fs : List Formula) → fs ≡ f ∷ gs → v ≡ value t s sheet f → not (beq v b) ≡ true → v ≡ values t s sheet (junction_for b) (formulas_of fs)
-  decided b v f gs fs e p d =
-      let rest = values t s sheet (junction_for b) (formulas_of gs) in
-      sym (join_differs b v rest d) ∙ ap (λ x. join (junction_for b) x rest) p ∙ sym (ap (λ xs. values t s sheet (junction_for b) (formulas_of xs)) e)
+  module _ (j : Junction) (b : Bool) (none : b ≡ empty j) where
+    -- a first part that decides
+    pub decided : (v : Bool) (f : Formula) (gs fs : List Formula) → fs ≡ f ∷ gs → v ≡ value t s sheet f → not (beq v b) ≡ true → v ≡ values t s sheet j (formulas_of fs)
+    decided v f gs fs e p d =
+        let rest = values t s sheet j (formulas_of gs) in
+        sym (join_differs j v rest (differs j b none v d)) ∙ ap (λ x. join j x rest) p ∙ sym (ap (λ xs. values t s sheet j (formulas_of xs)) e)
 
-  -- a first part that leaves it to the others
-  pub left_to : (b v w : Bool) (f : Formula) (gs fs : List Formula) → fs ≡ f ∷ gs → v ≡ value t s sheet f → not (beq v b) ≡ false → w ≡ values t s sheet (junction_for b) (formulas_of gs) → w ≡ values t s sheet (junction_for b) (formulas_of fs)
-  left_to b v w f gs fs e p d q =
-      let rest = values t s sheet (junction_for b) (formulas_of gs) in
-      q ∙ sym (join_agrees b (value t s sheet f) rest (sym p ∙ agree v b d)) ∙ sym (ap (λ xs. values t s sheet (junction_for b) (formulas_of xs)) e)
+    -- a first part that leaves it to the others
+    pub left_to : (v w : Bool) (f : Formula) (gs fs : List Formula) → fs ≡ f ∷ gs → v ≡ value t s sheet f → not (beq v b) ≡ false → w ≡ values t s sheet j (formulas_of gs) → w ≡ values t s sheet j (formulas_of fs)
+    left_to v w f gs fs e p d q =
+        let rest = values t s sheet j (formulas_of gs) in
+        q ∙ sym (join_agrees j (value t s sheet f) rest (sym p ∙ agree v b d ∙ none)) ∙ sym (ap (λ xs. values t s sheet j (formulas_of xs)) e)
 
-  -- no part is left
-  pub none_left : (b : Bool) (fs : List Formula) → fs ≡ [] → b ≡ values t s sheet (junction_for b) (formulas_of fs)
-  none_left true fs e = sym (ap (λ xs. values t s sheet all (formulas_of xs)) e)
-  none_left false fs e = sym (ap (λ xs. values t s sheet any (formulas_of xs)) e)
+    -- no part is left
+    pub none_left : (fs : List Formula) → fs ≡ [] → b ≡ values t s sheet j (formulas_of fs)
+    none_left fs e = none ∙ sym (ap (λ xs. values t s sheet j (formulas_of xs)) e)

@@ -1,7 +1,7 @@
 -- What a sheet and a scene show, and what stands in a task's table where so many variables are bound.
-use Rattle.std.specs.Prelude.{◌≡◌, ℕ, ◌+◌, Bool, cond, List, take, slice_set}
+use Rattle.std.specs.Prelude.{◌≡◌, ℕ, ◌+◌, Bool, List, take, slice_set}
 use Rattle.model.specs.Meaning.{value, values}
-use Rattle.model.specs.Trees.{Junction, all, any, Term, Formula}
+use Rattle.model.specs.Trees.{Junction, Term, Formula}
 use Rattle.adl.specs.Held.{held, tree_of}
 use Rattle.adl.specs.Reads.{formulas_of}
 use Rattle.protocol.specs.Shown.{shown}
@@ -27,10 +27,6 @@ pub record OneLess (a : Scene) (o : ℕ) (b : Scene) : Type 0 where
   pub depth : b.sheet.depth + 1 ≡ a.sheet.depth
   pub objects : b.sheet.objects ≡ slice_set a.sheet.objects b.sheet.depth o
 
--- whether all are asked for, or any
-abbrev pub junction_for : Bool → Junction
-junction_for b = cond b all any
-
 -- a term stands at place i
 abbrev pub TermIn : Sheet → ℕ → Term → Type 0
 TermIn s i x = TermAt (held s.task.now) s.depth i x
@@ -52,5 +48,5 @@ abbrev pub value_in : Scene → Formula → Bool
 value_in s f = value (tree_of s.sheet.task.now) (shown s.image.now) (bound s.sheet) f
 
 -- whether all formulas are true, or any
-abbrev pub values_in : Scene → Bool → List Formula → Bool
-values_in s b fs = values (tree_of s.sheet.task.now) (shown s.image.now) (bound s.sheet) (junction_for b) (formulas_of fs)
+abbrev pub values_in : Scene → Junction → List Formula → Bool
+values_in s j fs = values (tree_of s.sheet.task.now) (shown s.image.now) (bound s.sheet) j (formulas_of fs)

@@ -10,7 +10,7 @@ use crate::sheet::Scene;
 use crate::window::Window;
 use store::Store;
 
-// Puts the literals of the window that add, or those that delete.
+// Puts the literals of the window that add, or those that delete. `adds` is the value that is put, which a store takes as a bool.
 fn put_window<S: Store>(store: &mut S, window: &Window, adds: bool)
     requires { window.now.len ≤ 64 }
     ensures size { S.extent store.new ≡ S.extent store.old }

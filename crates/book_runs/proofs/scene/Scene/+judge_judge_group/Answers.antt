@@ -1,7 +1,7 @@
 use Rattle.std.proofs.Common.{◌∙◌, arith}
 use Rattle.book.specs.Reads.{ground}
 use Rattle.book_runs.specs.Scenes.{state_in, table_in}
-use Rattle.book_runs.specs.Standing.{joining}
+use Rattle.protocol.specs.Junctions.{joining}
 use Rattle.book_runs.proofs.Reading.{first}
 use Rattle.book_runs.proofs.Standing.{deep, and_stands, and_ends, and_values, or_stands, or_ends, or_values, false_value, single_ends, left_to}
 use Rattle.book_runs.proofs.scene.Scene.+judge_judge_group.Goals as goal

@@ -3,7 +3,8 @@ use Rattle.table.specs.Answers.{is_good}
 use Rattle.table.specs.Reading.{many, next_place}
 use Rattle.book.specs.Reads.{ground}
 use Rattle.book_runs.specs.Scenes.{state_in, table_in}
-use Rattle.book_runs.specs.Standing.{joining, values_in}
+use Rattle.protocol.specs.Junctions.{joining}
+use Rattle.book_runs.specs.Standing.{values_in}
 use Rattle.book_runs.proofs.scene.Scene.+judge_judge_group.Given as goal
 
 abbrev pub decreases-judge : goal.decreases-judge

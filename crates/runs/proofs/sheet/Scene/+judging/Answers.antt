@@ -1,3 +1,4 @@
+use Rattle.protocol.specs.Junctions.{joining}
 use Rattle.std.proofs.Common.{List, ◌∷◌, ◌≡◌, ℕ, ◌+◌, ◌-◌, ◌<◌, Bool, true, false, not, ◌||◌, eqb, length, get_or, sym, refl, ap, ◌∙◌, subst, arith, rules, below_more}
 use Rattle.std.proofs.lemmas.Bool.{eqb-true, eq-eqb}
 use Rattle.table.specs.declared.kind.Kind.TheVariants.{True, False, Atom, Equal, Not, And, Or, Imply, Forall, Exists}
@@ -17,7 +18,7 @@ use Rattle.runs.proofs.Junctions.{agree, none_left, over_all, over_one, is_membe
 use Rattle.runs.proofs.Shapes.{begins, no_formula, formula_kind, ends_after, at_true, at_false, at_atom, at_equal, at_not, at_and, at_or, at_imply, at_forall, at_exists, after_terms, first_formula}
 use Rattle.runs.proofs.Sheets.{restored, formula_seen, value_seen}
 use Rattle.runs.proofs.sheet.Scene.+judging.Goals as goal
-use Rattle.runs.proofs.sheet.Scene.+judging.Goals.{judge_each-then-members-o-eq1+else-part-all, judge_each-else-members-o-eq1}
+use Rattle.runs.proofs.sheet.Scene.+judging.Goals.{judge_each-then-members-o-eq1+else-part-undecided, judge_each-else-members-o-eq1}
 
 -- an implication whose first part is false, or true
 first_false : (a b : Bool) → a ≡ false → not a ≡ (not a || b)
@@ -338,8 +339,8 @@ judge_all-skip_all-requires t c =
     let x = turn A c.loop-k.self c.loop-k.next c.judge-part.result.1 (c.args.count - c.loop-k.k) r c.judge-part.result.0 _ p.1 i.0 c.judge-part.ensures.value (omega arith) (i.2 p.0 p.1 p.2).1 in
     (A.sheet.depth, x.1, p.1, subst (λ (s : Scene). FormulasAt (held s.sheet.task.now) A.sheet.depth c.judge-part.result.1 r x.1 p.1) (sym (c.judge-part.ensures.same ∙ i.0)) x.4)
 
-pub judge_all-returns-then-part-all : goal.judge_all-returns-then-part-all
-judge_all-returns-then-part-all t c =
+pub judge_all-returns-then-part-undecided : goal.judge_all-returns-then-part-undecided
+judge_all-returns-then-part-undecided t c =
     let i = c.loop-k.invariant in
     let A = c.args.self.now in
     let r = c.args.count - c.loop-k.k - 1 in
@@ -349,7 +350,7 @@ judge_all-returns-then-part-all t c =
       value = λ fs j s.
           let w = i.2 fs j s in
           let x = turn A c.loop-k.self c.loop-k.next c.judge-part.result.1 (c.args.count - c.loop-k.k) r c.judge-part.result.0 w.0 j i.0 c.judge-part.ensures.value (omega arith) w.1 in (
-            decided (tree_of A.sheet.task.now) (shown A.image.now) (bound A.sheet) c.args.all c.judge-part.result.0 x.0 x.1 w.0 x.2 x.3 c.if-part-all.true ∙ w.2,
+            decided (tree_of A.sheet.task.now) (shown A.image.now) (bound A.sheet) (joining c.args.junction) c.of_none-undecided.result c.of_none-undecided.ensures c.judge-part.result.0 x.0 x.1 w.0 x.2 x.3 c.if-part-undecided.true ∙ w.2,
             c.skip_all.ensures A.sheet.depth x.1 j (subst (λ (s : Scene). FormulasAt (held s.sheet.task.now) A.sheet.depth c.judge-part.result.1 r x.1 j) (sym same) x.4),
           );
     }
@@ -366,7 +367,7 @@ judge_all-loop-k-preserved t c =
       λ fs j s.
           let w = i.2 fs j s in
           let x = turn A c.loop-k.self c.loop-k.next c.judge-part.result.1 (c.args.count - c.loop-k.k) r c.judge-part.result.0 w.0 j i.0 c.judge-part.ensures.value (omega arith) w.1 in
-          (x.1, x.4, left_to (tree_of A.sheet.task.now) (shown A.image.now) (bound A.sheet) c.args.all c.judge-part.result.0 _ x.0 x.1 w.0 x.2 x.3 c.if-part-all.false refl ∙ w.2),
+          (x.1, x.4, left_to (tree_of A.sheet.task.now) (shown A.image.now) (bound A.sheet) (joining c.args.junction) c.of_none-undecided.result c.of_none-undecided.ensures c.judge-part.result.0 _ x.0 x.1 w.0 x.2 x.3 c.if-part-undecided.false refl ∙ w.2),
     )
 
 pub judge_all-returns : goal.judge_all-returns
@@ -378,7 +379,7 @@ judge_all-returns t c =
       value = λ fs j s.
           let w = i.2 fs j s in
           let e = no_formula w.1 (omega (arith, c.loop-k-test.false)) in
-          (none_left (tree_of A.sheet.task.now) (shown A.image.now) (bound A.sheet) c.args.all w.0 e.0 ∙ w.2, sym e.1);
+          (none_left (tree_of A.sheet.task.now) (shown A.image.now) (bound A.sheet) (joining c.args.junction) c.of_none-undecided.result c.of_none-undecided.ensures w.0 e.0 ∙ w.2, sym e.1);
     }
 
 pub judge_each-bounds-task-type_number : goal.judge_each-bounds-task-type_number
@@ -403,8 +404,8 @@ judge_each-judge-part-requires t c =
     let more = subst (λ a. OneMore a c.loop-o.o c.bind-before.new.self) c.loop-o.invariant.0 c.bind-before.ensures.bound in
     (omega (arith, ap (λ (b : Bor Task). b.now.table.sizes.entries) more.task), (p.0, p.1, formula_seen more p.2))
 
-pub judge_each-returns-then-part-all : goal.judge_each-returns-then-part-all
-judge_each-returns-then-part-all t c =
+pub judge_each-returns-then-part-undecided : goal.judge_each-returns-then-part-undecided
+judge_each-returns-then-part-undecided t c =
     let A = c.args.self.now in
     let T = A.sheet.task.now in
     let o = c.loop-o.o in
@@ -414,9 +415,9 @@ judge_each-returns-then-part-all t c =
       same = same;
       value = λ f j s.
           let v = instance A c.loop-o.self c.bind-before.new.self o c.args.at c.judge-part.result.1 c.judge-part.result.0 c.loop-o.invariant.0 c.bind-before.ensures.bound c.judge-part.ensures.value l f j s in
-          sym (over_one c.args.all c.judge-part.result.0 (λ o. value (tree_of T) (shown A.image.now) (bind (bound A.sheet) o) f) (members (tree_of T) c.args.type_number) o
+          sym (over_one (joining c.args.junction) c.of_none-undecided.result c.of_none-undecided.ensures c.judge-part.result.0 (λ o. value (tree_of T) (shown A.image.now) (bind (bound A.sheet) o) f) (members (tree_of T) c.args.type_number) o
           (is_member (held T) T.formed c.args.type_number c.requires.known o c.loop-o-test.true (eq-eqb _ _ c.if-members-o-eq1.true))
-          (sym v) c.if-part-all.true);
+          (sym v) c.if-part-undecided.true);
     }
 
 pub judge_each-loop-o-preserved : goal.judge_each-loop-o-preserved
@@ -425,12 +426,12 @@ judge_each-loop-o-preserved t c =
     let T = A.sheet.task.now in
     let o = c.loop-o.o in
     let l : A.sheet.depth < length A.sheet.objects = search rules in
-    let P : Formula → ℕ → Type 0 = λ f k. in_set (get_or T.table.entries.operands.now c.args.type_number 0) k ≡ true → value (tree_of T) (shown A.image.now) (bind (bound A.sheet) k) f ≡ c.args.all in
+    let P : Formula → ℕ → Type 0 = λ f k. in_set (get_or T.table.entries.operands.now c.args.type_number 0) k ≡ true → value (tree_of T) (shown A.image.now) (bind (bound A.sheet) k) f ≡ c.of_none-undecided.result in
     elim c.if-members-o-eq1.branch [
-      | judge_each-then-members-o-eq1+else-part-all w ↦ (
+      | judge_each-then-members-o-eq1+else-part-undecided w ↦ (
         w.self-is ∙ restored w.judge-part.new.self w.bind-before.ensures.bound w.bind-before.ensures.before w.judge-part.ensures.same w.drop-bound-then-members-o-eq1.ensures ∙ c.loop-o.invariant.0,
         λ f j s. below_more (P f) o (c.loop-o.invariant.1 f j s)
-            (λ h. sym (instance A c.loop-o.self w.bind-before.new.self o c.args.at w.judge-part.result.1 w.judge-part.result.0 c.loop-o.invariant.0 w.bind-before.ensures.bound w.judge-part.ensures.value l f j s) ∙ agree _ _ w.if-part-all.false),
+            (λ h. sym (instance A c.loop-o.self w.bind-before.new.self o c.args.at w.judge-part.result.1 w.judge-part.result.0 c.loop-o.invariant.0 w.bind-before.ensures.bound w.judge-part.ensures.value l f j s) ∙ agree _ _ w.if-part-undecided.false),
       )
       | judge_each-else-members-o-eq1 w ↦ (
         w.self-is ∙ c.loop-o.invariant.0,
@@ -444,6 +445,6 @@ judge_each-returns t c =
     let T = A.sheet.task.now in
     record {
       same = c.loop-o.invariant.0;
-      value = λ f j s. sym (over_all c.args.all (λ o. value (tree_of T) (shown A.image.now) (bind (bound A.sheet) o) f) (members (tree_of T) c.args.type_number)
+      value = λ f j s. sym (over_all (joining c.args.junction) c.of_none-undecided.result c.of_none-undecided.ensures (λ o. value (tree_of T) (shown A.image.now) (bind (bound A.sheet) o) f) (members (tree_of T) c.args.type_number)
           (λ o i. let m = member_is (held T) T.formed c.args.type_number c.requires.known o i in c.loop-o.invariant.1 f j s o (omega (arith, m.0)) m.1));
     }

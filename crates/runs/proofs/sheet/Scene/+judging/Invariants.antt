@@ -1,3 +1,4 @@
+use Rattle.protocol.specs.Junctions.{joining}
 use Rattle.std.proofs.Common.{◌≡◌, ℕ, ◌+◌, ◌-◌, ◌*◌, ◌<◌, ◌≤◌, List, true}
 use Rattle.model.specs.Trees.{Formula, in_set}
 use Rattle.model.specs.Meaning.{bind, value}
@@ -22,12 +23,12 @@ invariant-judge_all-loop-k l =
     (l.self ≡ l.initial.self)
     × (l.at ≤ l.next)
     × ((fs : List Formula) (j : ℕ) → FormulasIn l.initial.self l.at l.count fs j →
-    (gs : List Formula) × FormulasIn l.initial.self l.next (l.count - l.k) gs j × (values_in l.initial.self l.all gs ≡ values_in l.initial.self l.all fs))
+    (gs : List Formula) × FormulasIn l.initial.self l.next (l.count - l.k) gs j × (values_in l.initial.self (joining l.fn.junction) gs ≡ values_in l.initial.self (joining l.fn.junction) fs))
 
--- the scene is as it was, and each member so far gave the value `all`
+-- the scene is as it was, and each member so far left it undecided
 abbrev pub invariant-judge_each-loop-o : goal.invariant-judge_each-loop-o
 invariant-judge_each-loop-o l =
     (l.self ≡ l.initial.self)
     × ((f : Formula) (j : ℕ) → FormulaAt (held l.initial.self.sheet.task.now) (l.initial.self.sheet.depth + 1) l.at f j →
     (k : ℕ) → k < l.o → in_set l.members k ≡ true →
-    value (tree_of l.initial.self.sheet.task.now) (shown l.initial.self.image.now) (bind (bound l.initial.self.sheet) k) f ≡ l.all)
+    value (tree_of l.initial.self.sheet.task.now) (shown l.initial.self.image.now) (bind (bound l.initial.self.sheet) k) f ≡ l.undecided)
