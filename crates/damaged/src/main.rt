@@ -9,7 +9,7 @@ use fault::Fault;
 use std::io;
 use trials::{Arrays, Told};
 
-// What loading answers.
+// What loading answers; beside what opening answers in damaged_books: a trait over tasks and books would be longer than both.
 fn load(sizes: Sizes, arrays: &Arrays<ENTRIES>) -> Result<(), Fault> {
     let mut task = Task::new();
     task.load(sizes, &arrays.kinds, &arrays.operands)

@@ -9,7 +9,7 @@ use fault::Fault;
 use std::io;
 use trials::{Arrays, Told};
 
-// What opening answers.
+// What opening answers; beside what loading answers in damaged: a trait over tasks and books would be longer than both.
 fn open<'a>(sizes: Sizes, kinds: &'a [u8], operands: &'a [u32]) -> Result<(), Fault> {
     let mut book = Book::new();
     book.open(sizes, kinds, operands)
