@@ -1,8 +1,6 @@
 -- The first entry of what is read.
-use Rattle.std.proofs.Common.{◌≡◌, ℕ, ◌+◌, ◌<◌, Bool, true, false, ltb, get_or, Ok, Err, sym, refl, ap, ◌∙◌, arith}
+use Rattle.std.proofs.Common.{◌≡◌, ℕ, ◌+◌, ◌<◌, Bool, true, false, ltb, get_or, Ok, sym, refl, ap, ◌∙◌, arith}
 use Rattle.std.proofs.lemmas.Bool.{ltb-true}
-use Rattle.fault.specs.declared.Layer.TheVariants as layer
-use Rattle.fault.specs.Faults.{refusal}
 use Rattle.table.specs.declared.places.Place.{Place}
 use Rattle.table.specs.Permits.{permitted}
 use Rattle.table.specs.Reading.{Entry, Out, good, then, unless}

@@ -13,15 +13,21 @@ use crate::task_table::TaskTable;
 use fault::{Cause, Fault, Layer};
 use table::{Place, power};
 
-// So many types or parameters, one entry each, from place `at`.
+// A type or a parameter, one entry at place `at`.
+fn check_single(table: &TaskTable, place: Place, at: usize) -> Result<usize, Fault>
+    ensures { result ≡ answer (operand_at (table_in table.now) place at) }
+{
+    let _ = Reader::outermost(table, 0, at).head_at(place, at)?;
+    Ok(at + 1)
+}
+
+// So many of them, from place `at`.
 fn check_row(table: &TaskTable, place: Place, count: u32, at: usize) -> Result<usize, Fault>
     ensures { result ≡ answer (many (operand_at (table_in table.now) place) count at) }
 {
-    // counted by hand: nothing says that `at + count` fits
     let mut next = at;
     for _ in 0..count {
-        let _ = Reader::outermost(table, 0, next).head_at(place, next)?;
-        next += 1;
+        next = check_single(table, place, next)?;
     }
     Ok(next)
 }

@@ -4,7 +4,7 @@ ghost use Rattle.table.specs.Kinds.{code_of};
 
 use crate::kind::Kind;
 
-// Loops by index: what array::from_fn and a zip promise of an element was longer to prove, as each speaks of a closure's or an iterator's state.
+// By index: tried with array::from_fn, and the proof that its closure holds the same entries at every call did not close.
 
 // The codes of the kinds.
 pub fn kinds_of<const N: usize>(entries: &[(Kind, u32); N]) -> [u8; N]
