@@ -54,9 +54,7 @@ fn check_predicate(table: &TaskTable, before: u32, at: usize) -> Result<Predicat
     ensures few { IfOk result (λ p. p.atoms ≤ 65536) }
 {
     let head = Reader::outermost(table, 0, at).head_at(Place::Predicate, at)?;
-    let Some(own) = power(table.sizes.objects, head.operand) else {
-        unreachable()
-    };
+    let own = power(table.sizes.objects, head.operand).unwrap();
     if before + own > 65536 {
         return Err(Fault::new(Cause::TooManyAtoms, Layer::Task, at as u64));
     }

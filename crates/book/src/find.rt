@@ -15,10 +15,7 @@ pub(crate) fn end_of_name(table: &BookTable, at: usize) -> usize
     requires { SomeAction (table_in table.now) at }
     ensures { result ≡ name_end (table_in table.now) at }
 {
-    let Ok(end) = check_objects(table, 4, at + 1) else {
-        unreachable()
-    };
-    end
+    check_objects(table, 4, at + 1).unwrap()
 }
 
 // The name from place `at` to place `end`.
@@ -37,11 +34,6 @@ pub(crate) fn end_of_body(table: &BookTable, at: usize) -> usize
     requires { SomeBody (table_in table.now) at }
     ensures { result ≡ body_end (table_in table.now) at }
 {
-    let Ok(effect) = check_ground(table, 513, at) else {
-        unreachable()
-    };
-    let Ok(end) = check_effect(table, effect) else {
-        unreachable()
-    };
-    end
+    let effect = check_ground(table, 513, at).unwrap();
+    check_effect(table, effect).unwrap()
 }

@@ -22,6 +22,7 @@ pub(crate) fn perform_action<S: Store>(book: &Book, image: &[u8], name: Name, st
     let Some(number) = book.find(name) else {
         return false;
     };
+    // no unwrap: that the action has a place is shown from what its absence would say
     let Some(at) = book.action_at(number) else {
         unreachable()
     };

@@ -11,10 +11,7 @@ pub(crate) fn kind_at(table: &BookTable, at: usize) -> Kind
     requires known { slice_index table.now.entries.kinds.now at < 22 }
     ensures { code_of result ≡ slice_index table.now.entries.kinds.now at }
 {
-    match Kind::try_from(table.entries.kinds[at]) {
-        Ok(kind) => kind,
-        Err(_) => unreachable(),
-    }
+    Kind::try_from(table.entries.kinds[at]).unwrap()
 }
 
 // Whether an entry of this kind stands at place `at`.

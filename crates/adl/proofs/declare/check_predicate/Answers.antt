@@ -10,14 +10,14 @@ use Rattle.adl.proofs.declare.check_predicate.Goals as goal
 
 pub overflow_add-before : goal.overflow_add-before
 overflow_add-before c =
-    let w = power_found c.args.table.now.sizes.objects c.in_ok-head.head.operand c.in-Some.own c.in-Some.ensures in
+    let w = power_found c.args.table.now.sizes.objects c.in_ok-head.head.operand c.unwrap-own.result (sym c.unwrap-own.ensures ∙ c.power.ensures) in
     omega (arith, w.1)
 
 pub returns : goal.returns
 returns c =
     let t = table c.args.table.now in
     let o = c.in_ok-head.head.operand in
-    let w = power_found t.objects o c.in-Some.own c.in-Some.ensures in
+    let w = power_found t.objects o c.unwrap-own.result (sym c.unwrap-own.ensures ∙ c.power.ensures) in
     let few : c.args.before + t.objects ^ o ≤ 65536 = omega (arith, w.0) in
     let r = predicate_goes t c.args.before c.args.at (coded c.in_ok-head.head) (c.in_ok-head.ensures.same ∙ alike (λ t a. heading (head t place.Predicate a c.args.at)) c.outermost.ensures.table c.outermost.ensures.around) few in
     record {
