@@ -13,6 +13,8 @@ use crate::task_table::TaskTable;
 use fault::{Cause, Fault, Layer};
 use table::{Place, power};
 
+// The place is passed beside the table, since each check answers with a place.
+
 // A type or a parameter, one entry at place `at`.
 fn check_single(table: &TaskTable, place: Place, at: usize) -> Result<usize, Fault>
     ensures { result ≡ answer (operand_at (table_in table.now) place at) }
@@ -120,6 +122,7 @@ fn check_operator(table: &TaskTable, at: usize) -> Result<Checked, Fault>
 // The operators that were checked: where each begins and where its effect does, and the place after them.
 #[derive(Clone, Copy)]
 pub(crate) struct Operators {
+    // as many as a task may have, since nothing here allocates
     pub(crate) places: [OperatorPlaces; 32],
     pub(crate) end: usize,
 }

@@ -21,6 +21,7 @@ impl Sizes {
         ensures same { result ≡ sizes_fit self }
         ensures limits { OnOk result ((self.objects ≤ 32) × (self.types ≤ 32) × (self.predicates ≤ 32) × (self.facts ≤ 4096) × (self.operators ≤ 32) × (self.entries ≤ 16384)) }
     {
+        // the place of the refusal is the number of the size, as the page on refusals lists it
         let outside = if self.objects == 0 || self.objects > 32 {
             0
         } else if self.types > 32 {

@@ -39,7 +39,7 @@ struct Course<'c> {
     names: &'c [Name<'c>],
 }
 
-// Performs the names round after round; answers how many steps were taken.
+// Performs the names round after round; answers how many steps were taken, none where no run begins.
 fn perform_all(task: &Task, store: &mut Bits, image: &mut [u8], names: &[Name]) -> u32 {
     let Ok(mut run) = TaskRun::begin(task, store) else {
         return 0;

@@ -9,7 +9,8 @@ use fault::Fault;
 use table::{Kind, Place};
 
 // The formula at place `at`, where so many levels are left.
-// Each check answers with a place: it is passed beside the table, since a cursor of both would be taken apart at each.
+// Each check answers with a place: it is passed beside the table, since a cursor of both would be taken apart at each; the
+// levels change at each call.
 pub(crate) fn check_ground(table: &BookTable, levels: u32, at: usize) -> Result<usize, Fault>
     ensures { result ≡ answer (ground (table_in table.now) levels at) }
 {

@@ -37,7 +37,7 @@ fn check_members(
     ensures { result ≡ answer (members_in (table_in table.now) place others.entry.atoms.now count from) }
 {
     let mut low = 0;
-    // counted by hand: nothing says that `from + count` fits
+    // counted by hand: a function for one member would answer the bound for the next beside the place
     let mut at = from;
     for _ in 0..count {
         let atom = head_at(table, place, 513, at)?.operand;

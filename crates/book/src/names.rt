@@ -13,7 +13,8 @@ use crate::head::head_at;
 use fault::{Cause, Fault, Layer};
 use table::{Kind, Place};
 
-// The objects from place `at`, of which `room` more may come: the place after them.
+// The objects from place `at`, of which `room` more may come: the place after them. A recursion as the definition is one: the room ends, or the
+// objects do.
 pub(crate) fn check_objects(table: &BookTable, room: u32, at: usize) -> Result<usize, Fault>
     ensures { result ≡ answer (objects (table_in table.now) room at) }
 {
@@ -29,7 +30,8 @@ pub(crate) fn check_objects(table: &BookTable, room: u32, at: usize) -> Result<u
     check_objects(table, room - 1, at + 1)
 }
 
-// Whether the list `a` comes before the list `b`: from the left, and before any longer one that it begins.
+// Whether the list `a` comes before the list `b`: from the left, and before any longer one that it begins. A function of its own, which names the
+// lemma on that order.
 #[tactic(auto, using(crate::proofs::Order::less_precedes))]
 fn precedes(a: &[u32], b: &[u32]) -> bool
     ensures { result ≡ comes_before a.now b.now }

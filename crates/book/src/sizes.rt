@@ -22,6 +22,7 @@ impl Sizes {
         ensures same { result ≡ sizes_fit self }
         ensures limits { OnOk result ((self.atoms ≤ 65536) × (self.relevant + self.always ≤ self.atoms) × (self.actions ≤ 1048576) × (self.entries ≤ 1048576)) }
     {
+        // the place of the refusal is the number of the size, as the page on refusals lists it
         let outside = if self.atoms > 65536 {
             0
         } else if self.relevant as u64 + self.always as u64 > self.atoms as u64 {

@@ -13,7 +13,8 @@ use book::Book;
 use protocol::Name;
 use store::Store;
 
-// Judges the precondition of the action with this name in the image and, if it is true, takes the step; tells whether.
+// Judges the precondition of the action with this name in the image and, if it is true, takes the step; tells whether, which is no for a name that
+// the book does not have too: the caller has one refusal for both.
 pub(crate) fn perform_action<S: Store>(book: &Book, image: &[u8], name: Name, store: &mut S) -> bool
     ensures size { S.extent store.new ≡ S.extent store.old }
     ensures judged { result ≡ is_taken (shown image.now) (find (name_of name.entry) (tree_of book.now).actions) }

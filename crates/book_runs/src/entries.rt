@@ -5,7 +5,7 @@ ghost use Rattle.table.specs.Kinds.{code_of};
 use book::BookTable;
 use table::Kind;
 
-// The kind of the entry at place `at`.
+// The kind of the entry at place `at`. Of tasks too: one for both would be public, and a public call asks nothing of its caller.
 pub(crate) fn kind_at(table: &BookTable, at: usize) -> Kind
     requires within { at < table.now.sizes.entries }
     requires known { slice_index table.now.entries.kinds.now at < 22 }

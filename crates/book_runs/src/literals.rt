@@ -24,7 +24,8 @@ pub(crate) fn literal_end(table: &BookTable, at: usize) -> usize
     }
 }
 
-// Puts the literal at place `at`, if it adds or deletes as is asked for.
+// Puts the literal at place `at`, if it adds or deletes as is asked for. `adds` is the value that is put: a store takes it, and the definition of puts
+// goes by it, so a sign would be turned into it at each use.
 pub(crate) fn put_literal<S: Store>(table: &BookTable, at: usize, store: &mut S, adds: bool)
     requires { literal_end (table_in table.now) at ≤ table.now.sizes.entries }
     ensures size { S.extent store.new ≡ S.extent store.old }
@@ -36,7 +37,8 @@ pub(crate) fn put_literal<S: Store>(table: &BookTable, at: usize, store: &mut S,
     }
 }
 
-// Goes through the literals at place `at` to the place after them, and puts those that are asked for if the condition holds.
+// Goes through the literals at place `at` to the place after them, which is wanted either way, and puts those that are asked for if the condition
+// holds.
 pub(crate) fn put_literals<S: Store>(
     table: &BookTable,
     at: usize,
@@ -50,6 +52,7 @@ pub(crate) fn put_literals<S: Store>(
     ensures set { S.facts store.new ≡ put_literals (S.extent store.old) adds (if holds then items_in (literals (table_in table.now) at) else []) (S.facts store.old) }
 {
     let mut next = at + 1;
+    // downwards, as the proof speaks of what is left
     for _ in (0..table.entries.operands[at]).rev() {
         if holds {
             put_literal(table, next, store, adds);

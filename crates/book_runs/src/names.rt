@@ -16,7 +16,8 @@ fn is_object_at(table: &BookTable, at: usize) -> bool
     at < table.sizes.entries as usize && is_kind(table, at, Kind::Object)
 }
 
-// The place after the objects of a name, which stand from place `at` on.
+// The place after the objects of a name, which stand from place `at` on. The like of crate `book` asks that an action stands there, and so cannot be
+// public. The count of places is the answer.
 pub(crate) fn after_objects(table: &BookTable, at: usize) -> usize
     requires { is_good (objects (table_in table.now) 4 at) ≡ true }
     ensures { result ≡ next_place (objects (table_in table.now) 4 at) }

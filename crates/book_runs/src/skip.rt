@@ -30,6 +30,7 @@ pub(crate) fn skip_all(table: &BookTable, levels: u32, at: usize, count: u32) ->
     ensures { result ≡ next_place (many (ground (table_in table.now) levels) count at) }
 {
     let mut next = at;
+    // downwards, as the proof speaks of what is left
     for _ in (0..count).rev() {
         next = skip(table, levels, next);
     }

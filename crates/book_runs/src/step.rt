@@ -31,7 +31,8 @@ impl Scene<'_> {
     }
 
     // Puts what the effect at place `at` adds, or deletes.
-    // `adds` is the value that is put, which a store takes as a bool; a struct of it and the store would have to promise everywhere that it stays.
+    // `adds` is the value that is put, which a store takes and the definition of puts goes by; a struct of it and the store would have to promise
+    // everywhere that it stays.
     fn put_effect<S: Store>(&self, at: usize, store: &mut S, adds: bool)
         requires { is_good (effect (table_in self.now) at) ≡ true }
         ensures size { S.extent store.new ≡ S.extent store.old }
@@ -39,6 +40,7 @@ impl Scene<'_> {
     {
         let table = self.table;
         let mut next = at + 1;
+        // downwards, as the proof speaks of what is left
         for _ in (0..table.entries.operands[at]).rev() {
             next = self.put_clause(next, store, adds);
         }

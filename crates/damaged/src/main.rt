@@ -15,6 +15,7 @@ fn load(sizes: Sizes, arrays: &Arrays<ENTRIES>) -> Result<(), Fault> {
     task.load(sizes, &arrays.kinds, &arrays.operands)
 }
 
+// Beside that of damaged_books, as the word differs.
 fn tell(rt: &impl Print, words: &str, answer: Result<(), Fault>) -> io::Result<()> {
     println!(rt; "{words}: {}", Told(answer.map(|()| "loads")))
 }

@@ -15,6 +15,7 @@ fn open<'a>(sizes: Sizes, kinds: &'a [u8], operands: &'a [u32]) -> Result<(), Fa
     book.open(sizes, kinds, operands)
 }
 
+// Beside that of damaged, as the word differs.
 fn tell(rt: &impl Print, words: &str, answer: Result<(), Fault>) -> io::Result<()> {
     println!(rt; "{words}: {}", Told(answer.map(|()| "opens")))
 }

@@ -72,7 +72,7 @@ impl Fault {
     }
 }
 
-// The number that the return list gives a cause.
+// The number that the return list gives a cause, written out since the numbers have gaps.
 impl From<Cause> for u8 {
     ghost from_gives = { λ cause number. (number ≡ number_of cause) × (cause_of number ≡ cause) };
 

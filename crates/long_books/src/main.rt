@@ -98,6 +98,7 @@ fn tell(rt: &impl Print, heap: Global, goal: &Goal) -> anyhow::Result<()> {
     let mut operands = Vec::new(heap);
     fill_kinds(&mut kinds, goal)?;
     fill_operands(&mut operands, goal, kinds.len())?;
+    // a table of no entries is refused when it is opened
     let entries = u32::try_from(kinds.len()).unwrap_or(0);
     match answer(entries, kinds.as_slice(), operands.as_slice()) {
         Ok(value) => println!(rt; "{words}: opens, and its goal is {value}")?,

@@ -7,6 +7,8 @@ use crate::too_few_places::TooFewPlaces;
 use protocol::{Answer, Call, Run};
 use store::Store;
 
+// Subject, run and store stay side by side: a run is used up by the calls that end it, and a struct would have no run in between.
+
 // A begin during a run: where it is accepted the old run is ended, where it is refused the old one goes on.
 fn begin_again<R: Run, S: Store>(subject: R::Of, run: R, store: &mut S) -> (R, Answer)
     requires { R.of run ≡ subject }
@@ -111,6 +113,7 @@ pub fn play<R: Run, S: Store>(
         return Err(TooFewPlaces);
     }
     let mut run: Option<R> = None;
+    // by index: after a zip with iter_mut the proof would not know the answers written
     for (i, call) in calls.iter().enumerate() {
         (run, answers[i]) = call_any(subject, run, store, image, *call);
     }

@@ -15,6 +15,7 @@ pub(crate) fn put_facts<S: Store>(task: &Task, store: &mut S)
 {
     let sheet = Sheet::of(task, &[]);
     let mut at = task.table.sizes.types as usize + task.table.sizes.predicates as usize;
+    // each fact tells by the arity of its predicate where the next begins
     for _k in 0..task.table.sizes.facts {
         let predicate = task.table.entries.operands[at];
         let _ = store.put(sheet.atom_number(predicate, at + 1), true);

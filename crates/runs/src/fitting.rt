@@ -11,7 +11,7 @@ ghost use Rattle.adl.specs.Held.{held, tree_of};
 use adl::Task;
 use protocol::Name;
 
-// Whether the object is a member of the type.
+// Whether the object is a member of the type, which is known as it is of every type that a formula, an effect or a parameter names.
 fn is_member(task: &Task, type_number: u32, object: u32) -> bool
     requires { type_number < task.now.table.sizes.types }
     ensures { result ≡ has object (members (tree_of task.now) type_number) }
@@ -34,7 +34,7 @@ fn are_typed(task: &Task, at: usize, objects: &[u32]) -> bool
     }
 }
 
-// Whether the numbers all differ.
+// Whether the numbers all differ: each from those after it.
 fn are_distinct(numbers: &[u32]) -> bool
     ensures { result ≡ distinct numbers.now }
 {

@@ -21,7 +21,8 @@ pub(crate) fn judge_goal(task: &Task, image: &[u8]) -> bool
     value
 }
 
-// Judges the precondition of the name in the image and, if it is true, takes the step; tells whether.
+// Judges the precondition of the name in the image and, if it is true, takes the step; tells whether, since the caller alone knows the place that
+// a refusal names.
 pub(crate) fn perform_operator<S: Store>(
     task: &Task,
     image: &[u8],

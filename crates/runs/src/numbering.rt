@@ -11,7 +11,7 @@ use crate::sheet::Sheet;
 use adl::Task;
 use table::{Kind, power};
 
-// The kind of the entry at place `at`.
+// The kind of the entry at place `at`. Of books too: one for both would be public, and a public call asks nothing of its caller.
 pub(crate) fn kind_at(task: &Task, at: usize) -> Kind
     requires within { at < task.now.table.sizes.entries }
     requires known { slice_index task.now.table.entries.kinds.now at < 22 }
@@ -56,6 +56,7 @@ impl Sheet<'_, '_> {
         ensures atom { (ts : List Term) (j : ℕ) → TermsAt (held self.now.task.now) self.now.depth predicate at ts j → result ≡ atom_of (tree_of self.now.task.now) (bound self.now) predicate ts }
     {
         let task = self.task;
+        // by the place of each term: a kind and an operand stand in two arrays
         let mut digits = 0;
         for k in 0..task.table.arity(predicate) {
             digits = digits * task.table.sizes.objects + self.term(at + k as usize);

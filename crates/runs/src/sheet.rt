@@ -5,7 +5,8 @@ ghost use Rattle.runs.specs.Objects.{within_prop};
 
 use adl::Task;
 
-// A task, and an object for each bound variable: at most four parameters and three quantifiers.
+// A task, and an object for each bound variable: at most four parameters and three quantifiers. An array and a number of places, as nothing here
+// allocates.
 #[derive(Drop)]
 pub(crate) struct Sheet<'s, 'a> {
     pub(crate) task: &'s Task<'a>,
@@ -37,7 +38,7 @@ impl<'s, 'a> Sheet<'s, 'a> {
     }
 }
 
-// A sheet, and an image of the state.
+// A sheet, and an image of the state. Functions that bind more variables for a while each say that the scene is as it was.
 #[derive(Drop)]
 pub(crate) struct Scene<'s, 'a> {
     pub(crate) sheet: Sheet<'s, 'a>,
@@ -47,7 +48,8 @@ pub(crate) struct Scene<'s, 'a> {
 impl Scene<'_, '_> {
     ghost use Rattle.runs.specs.Shown.{OneMore};
 
-    // Binds one variable more to this object, and tells what its slot held before.
+    // Binds one variable more to this object, and tells what its slot held before. That a slot is free is asked here and by the two that bind: it holds of
+    // no other scene.
     pub(crate) fn bind(&mut self, object: u32) -> u32
         requires room { self.old.sheet.depth < 7 }
         requires known { object < self.old.sheet.task.now.table.sizes.objects }

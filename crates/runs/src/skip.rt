@@ -8,7 +8,7 @@ use crate::numbering::kind_at;
 use adl::Task;
 use table::Kind;
 
-// The place after the formula at place `at`.
+// The place after the formula at place `at`. Of books too: another grammar, of other trees.
 #[cycle(skipping)]
 pub(crate) fn skip(task: &Task, at: usize) -> usize
     requires { (v : ℕ) × (f : Formula) × (j : ℕ) × FormulaAt (held task.now) v at f j }

@@ -9,6 +9,8 @@ use crate::skip::skip;
 use adl::Task;
 use table::Kind;
 
+// The place is passed beside the task, since each function answers with a place.
+
 // The place after an atom that is added or deleted.
 fn skip_change(task: &Task, at: usize) -> usize
     requires { (v : ℕ) × (c : Change) × (j : ℕ) × ChangeAt (held task.now) v at c j }

@@ -10,7 +10,8 @@ use crate::sheet::Scene;
 use crate::window::Window;
 use store::Store;
 
-// Puts the literals of the window that add, or those that delete. `adds` is the value that is put, which a store takes as a bool.
+// Puts the literals of the window that add, or those that delete. `adds` is the value that is put: a
+// store takes it, and the definition of puts goes by it, so a sign would be turned into it at each use.
 fn put_window<S: Store>(store: &mut S, window: &Window, adds: bool)
     requires { window.now.len ≤ 64 }
     ensures size { S.extent store.new ≡ S.extent store.old }
@@ -32,6 +33,7 @@ impl Scene<'_, '_> {
         ensures set { (e : Effect) (j : ℕ) → EffectIn self.old at e j →
             S.facts store.new ≡ put_literals (S.extent store.old) adds (literals_in self.old e) (S.facts store.old) }
     {
+        // window after window: only walking the effect tells how many literals it has
         let mut from = 0;
         loop {
             let mut window = Window::fresh(from);
@@ -44,7 +46,8 @@ impl Scene<'_, '_> {
         }
     }
 
-    // Takes the step of the effect at place `at`: all that it deletes, then all that it adds.
+    // Takes the step of the effect at place `at`: all that it deletes, then all that it adds. A book's scene has the like: a trait over both would state
+    // judging and putting as ghost members, longer than these bodies.
     fn take_step<S: Store>(&mut self, at: usize, store: &mut S)
         requires { (e : Effect) × (j : ℕ) × EffectIn self.old at e j }
         ensures size { S.extent store.new ≡ S.extent store.old }

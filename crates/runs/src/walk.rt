@@ -36,7 +36,8 @@ impl Sheet<'_, '_> {
         )
     }
 
-    // Offers the literals of the consequent at place `at` to the window, and tells the place after it.
+    // Offers the literals of the consequent at place `at` to the window, and tells the place after it. Beside `walk`, since it is another grammar, of
+    // other trees, and judges nothing.
     #[cycle(walking_consequents)]
     fn walk_consequent(&self, at: usize, window: &mut Window) -> usize
         requires { (c : Consequent) × (j : ℕ) × ConsequentIn self.now at c j }
@@ -115,7 +116,8 @@ impl Scene<'_, '_> {
         next
     }
 
-    // The same of the effect at place `at` for each member of a type, in rising order.
+    // The same of the effect at place `at` for each member of a type, in rising order. The loop is that of `judge_each`: one for both would take what is
+    // done as a closure in the cycle of calls.
     #[cycle(walking)]
     fn walk_each(&mut self, at: usize, type_number: u32, window: &mut Window)
         requires room { self.old.sheet.depth < 7 }

@@ -7,6 +7,7 @@ use std::io;
 use store::Bits;
 use trials::{Arrays, Told};
 
+// Each answer in other words.
 fn ask(rt: &impl Print, run: &TaskRun, store: &Bits) -> io::Result<()> {
     for (words, atom) in QUESTIONS {
         match run.holds(store, atom) {

@@ -18,7 +18,7 @@ pub(crate) fn show_step(
     println!(rt; "{words:<40}{task} | {book}")
 }
 
-// A question.
+// A question: other words than of a step, in columns of other widths.
 pub(crate) fn show_truth(
     rt: &impl Print,
     words: &str,

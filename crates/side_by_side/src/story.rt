@@ -40,7 +40,8 @@ fn play(rt: &impl Print, task: &mut Side<TaskRun>, book: &mut Side<BookRun>) -> 
     show_truth(rt, "", in_task, in_book)
 }
 
-// Begins a run of the book, plays the story on both and ends it; answers how many steps it took.
+// Begins a run of the book, plays the story on both and ends it; answers how many steps it took, none where no run begins. Inside the run of the
+// task, so that each is ended where it was begun.
 fn run_book(rt: &impl Print, task: &mut Side<TaskRun>, book: &Book) -> (u32, io::Result<()>) {
     let mut bytes = [0; 2];
     let mut image = [0; 16];

@@ -28,7 +28,8 @@ fn arrays_of(case: &Case) -> Arrays<ROOM> {
     Arrays::of(&table)
 }
 
-// The answers to the calls of a case, over packed bits with room for 64 facts.
+// The answers to the calls of a case, over packed bits with room for 64 facts. Where the table does not load no run begins, so no call finds one.
+// A program without a heap: what the arrays have room for beyond the case is left unused.
 fn answers_of(case: &Case) -> [Answer; MOST] {
     let mut answers = [Answer::NoRun; MOST];
     let arrays = arrays_of(case);

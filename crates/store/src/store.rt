@@ -23,7 +23,8 @@ pub trait Store {
     fn has(&self, k: u32) -> Result<bool, Fault>
         ensures { result ≡ answered (extent self.now) k (facts self.now k) };
 
-    // Puts fact k into the set, or takes it out.
+    // Puts fact k into the set, or takes it out: one call with a bool, as the project has it. That the size stays is said by each call: no field
+    // relates what a store was to what it is.
     fn put(&mut self, k: u32, present: bool) -> Result<(), Fault>
         ensures size { extent self.new ≡ extent self.old }
         ensures set { facts self.new ≡ after_put (extent self.old) (facts self.old) k present }

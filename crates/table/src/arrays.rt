@@ -13,7 +13,7 @@ pub struct Head {
     pub operand: u32,
 }
 
-// So many entries, whose arrays have at least as many places.
+// So many entries, whose arrays have at least as many places: two arrays and a count, as the interface hands them over.
 #[derive(Clone, Copy)]
 pub struct Entries<'a> {
     pub count: u32,

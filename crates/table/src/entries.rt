@@ -4,7 +4,7 @@ ghost use Rattle.table.specs.Kinds.{code_of};
 
 use crate::kind::Kind;
 
-// By index: tried with array::from_fn, and the proof that its closure holds the same entries at every call did not close.
+// Two functions, as a table is two arrays. By index: tried with array::from_fn, and the proof that its closure holds the same entries at every call did not close.
 
 // The codes of the kinds.
 pub fn kinds_of<const N: usize>(entries: &[(Kind, u32); N]) -> [u8; N]

@@ -1,7 +1,7 @@
 // Powers of small numbers.
 ghost use Rattle.std.specs.Prelude.{◌≡◌, ◌^◌, ◌≤◌, ◌&&◌, if◌then◌else◌, Some, None, nat_le};
 
-// n to the power k stands at 5 * n + k, for n from 0 to 32 and k from 0 to 4.
+// n to the power k stands at 5 * n + k, for n from 0 to 32 and k from 0 to 4. Written out: the project wants a table of these 165 numbers.
 const POWERS: [u32; 165] = [
     1, 0, 0, 0, 0, 1, 1, 1, 1, 1, 1, 2, 4, 8, 16, 1, 3, 9, 27, 81, 1, 4, 16, 64, 256, 1, 5, 25,
     125, 625, 1, 6, 36, 216, 1296, 1, 7, 49, 343, 2401, 1, 8, 64, 512, 4096, 1, 9, 81, 729, 6561,

@@ -4,7 +4,7 @@ ghost use Rattle.table.specs.Kinds.{code_of};
 
 use table::{Kind, kinds_of, operands_of};
 
-// The codes of a table's kinds, and its operands.
+// The codes of a table's kinds, and its operands: two arrays, as loading and opening take them.
 #[derive(Clone, Copy)]
 pub struct Arrays<const N: usize> {
     pub kinds: [u8; N],

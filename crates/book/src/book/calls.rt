@@ -24,6 +24,7 @@ impl<'a> Book<'a> {
         };
         let entries = Entries {
             count: 1,
+            // TRUE, by its code: a constant that is lent for as long as the record lasts
             kinds: &[0],
             operands: &[0],
         };

@@ -12,7 +12,8 @@ use protocol::Name;
 use std::cmp::Ordering;
 
 impl<'a> Book<'a> {
-    // The number of the action with that name. Names rise: those that come before it are passed over.
+    // The number of the action with that name. Names rise: those that come before it are passed over, one after the other, as only the one before
+    // tells where the next begins.
     pub fn find(&self, name: Name) -> Option<u32>
         ensures number { result ≡ number_from 0 (tree_of self.now).actions (name_of name.entry) }
         ensures exact { Tells result (tree_of self.now).actions (name_of name.entry) }
