@@ -1,5 +1,5 @@
 -- What opening answers, and the book that a record holds.
-use Rattle.std.specs.Prelude.{ℕ, ◌+◌, Bool, true, ◌||◌, List, [], length, Ok, ◌==◌, nat_lt}
+use Rattle.std.specs.Prelude.{ℕ, ◌+◌, Bool, true, ◌||◌, List, [], Ok, ◌==◌, nat_lt}
 use Rattle.fault.specs.declared.Layer.TheVariants as layer
 use Rattle.table.specs.Reading.{Out, bad, good}
 use Rattle.table.specs.Answers as read

@@ -1,4 +1,4 @@
-use Rattle.std.proofs.Common.{◌-◌, ◌<◌, map, length, Err, sym, ap, ◌∙◌, arith, length-set}
+use Rattle.std.proofs.Common.{◌-◌, ◌<◌, map, length, Err, ap, ◌∙◌, arith, length-set}
 use Rattle.std.proofs.lemmas.Result.{err_from_is_err_and}
 use Rattle.table.specs.Reading.{starts}
 use Rattle.adl.specs.Reads.{operator}
@@ -6,8 +6,8 @@ use Rattle.adl.specs.Kept.{places_from}
 use Rattle.adl.specs.Views.{table}
 use Rattle.adl.specs.Ends.{operators_end}
 use Rattle.fault.specs.declared.Layer.TheVariants as layer
-use Rattle.table.proofs.Answering.{place_after, many_refused, many_turn, many_over, made_refused}
-use Rattle.adl.proofs.Operators.{noted, all_noted}
+use Rattle.table.proofs.Answering.{place_after, many_refused, many_turn, made_refused}
+use Rattle.adl.proofs.Operators.{noted}
 use Rattle.adl.proofs.declare.check_operators.Goals as goal
 
 pub returns-in_err-one : goal.returns-in_err-one
@@ -33,12 +33,3 @@ loop-i-preserved c =
       noted (operator t) (places_from t) t.operators i from to (record { start = from; effect = c.in_ok-one.one.effect }) ps (map (places_from t) (starts (operator t) t.operators c.args.at)) c.loop-i-test.true n (ap (λ x. record { start = from; effect = x }) h.effect) (place_after layer.Task (operator t from) to h.same) c.loop-i.invariant.1,
       length-set ps i _ ∙ c.loop-i.invariant.2,
     )
-
-pub returns : goal.returns
-returns c =
-    let t = table c.args.table.now in
-    let i = c.loop-i.i in
-    record {
-      same = sym (many_over layer.Task (operator t) (t.operators - i) c.loop-i.all.end (omega arith)) ∙ c.loop-i.invariant.0;
-      places = all_noted (operator t) (places_from t) t.operators i c.loop-i.all.end c.loop-i.all.places (map (places_from t) (starts (operator t) t.operators c.args.at)) (omega arith) c.loop-i.invariant.1;
-    }

@@ -1,12 +1,12 @@
-use Rattle.std.proofs.Common.{◌≡◌, ◌-◌, Err, sym, refl, ap, ◌∙◌, arith}
+use Rattle.std.proofs.Common.{◌≡◌, ◌-◌, Err, refl, ap, ◌∙◌, arith}
 use Rattle.std.proofs.lemmas.Result.{err_from_is_err_and}
 use Rattle.table.specs.Reading.{series}
 use Rattle.adl.specs.Reads.{predicate, with_atoms}
 use Rattle.adl.specs.Views.{table, answer}
 use Rattle.adl.specs.Ends.{predicates_end}
 use Rattle.fault.specs.declared.Layer.TheVariants as layer
-use Rattle.table.proofs.Answering.{series_refused, series_over, made_refused}
-use Rattle.adl.proofs.Declared.{predicates_turn, counts_none, counts_turn, counts_all}
+use Rattle.table.proofs.Answering.{series_refused, made_refused}
+use Rattle.adl.proofs.Declared.{predicates_turn, counts_none, counts_turn}
 use Rattle.adl.proofs.declare.check_predicates.Goals as goal
 
 pub loop-init : goal.loop-init
@@ -36,13 +36,3 @@ loop-preserved c =
       predicates_turn t t.predicates c.loop.counter s.atoms s.end r.atoms r.end (omega arith) f.same f.counted ∙ c.loop.invariant.1,
       counts_turn t t.predicates c.loop.counter s.atoms s.end r.atoms r.end (series (predicate t) (with_atoms t) t.predicates 0 c.args.at) (omega arith) f.same f.counted c.loop.invariant.2,
     )
-
-pub returns : goal.returns
-returns c =
-    let t = table c.args.table.now in
-    let s = c.loop.so_far in
-    record {
-      same = sym (series_over layer.Task (predicate t) (with_atoms t) (t.predicates - c.loop.counter) s.atoms s.end (omega arith)) ∙ c.loop.invariant.1;
-      counted = counts_all t (t.predicates - c.loop.counter) s.atoms s.end (series (predicate t) (with_atoms t) t.predicates 0 c.args.at) (omega arith) c.loop.invariant.2;
-      few = c.loop.invariant.0;
-    }

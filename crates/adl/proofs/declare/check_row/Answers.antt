@@ -1,9 +1,9 @@
-use Rattle.std.proofs.Common.{◌-◌, Err, sym, ap, ◌∙◌, arith}
+use Rattle.std.proofs.Common.{◌-◌, Err, ap, ◌∙◌, arith}
 use Rattle.std.proofs.lemmas.Result.{err_from_is_err_and}
 use Rattle.adl.specs.Reads.{operand_at}
 use Rattle.adl.specs.Views.{table}
 use Rattle.fault.specs.declared.Layer.TheVariants as layer
-use Rattle.table.proofs.Answering.{many_refused, many_turn, many_over}
+use Rattle.table.proofs.Answering.{many_refused, many_turn}
 use Rattle.adl.proofs.declare.check_row.Goals as goal
 
 pub returns-in_err-next : goal.returns-in_err-next
@@ -17,6 +17,3 @@ pub loop-preserved : goal.loop-preserved
 loop-preserved c =
     many_turn layer.Task (operand_at (table c.args.table.now) c.args.place) c.args.count c.loop.counter c.loop.next c.in_ok-next.next (omega arith) c.in_ok-next.ensures
     ∙ c.loop.invariant
-
-pub returns : goal.returns
-returns c = sym (many_over layer.Task (operand_at (table c.args.table.now) c.args.place) (c.args.count - c.loop.counter) c.loop.next (omega arith)) ∙ c.loop.invariant

@@ -1,13 +1,7 @@
-use Rattle.std.proofs.Common.{sym, refl, ◌∙◌, arith}
+use Rattle.std.proofs.Common.{sym, ◌∙◌}
 use Rattle.book.specs.Views.{table}
-use Rattle.book_runs.proofs.Objects.{object_more, objects_end, object_inside}
+use Rattle.book_runs.proofs.Objects.{object_more, objects_end}
 use Rattle.book_runs.proofs.names.after_objects.Goals as goal
-
-pub loop-next-init : goal.loop-next-init
-loop-next-init c = (4, c.requires, refl)
-
-pub loop-next-smaller : goal.loop-next-smaller
-loop-next-smaller c = omega (arith, object_inside (table c.args.table.now) c.loop-next.next (sym c.is_object_at.ensures ∙ c.loop-next-test.true))
 
 pub loop-next-preserved : goal.loop-next-preserved
 loop-next-preserved c =

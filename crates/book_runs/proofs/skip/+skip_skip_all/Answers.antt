@@ -1,7 +1,4 @@
 use Rattle.std.proofs.Common.{◌∙◌, arith}
-use Rattle.book.specs.Views.{table}
-use Rattle.book.specs.Reads.{ground}
-use Rattle.book_runs.proofs.Reading.{first}
 use Rattle.book_runs.proofs.Standing.{deep, listed_stand, listed_end, single_ends}
 use Rattle.book_runs.proofs.skip.+skip_skip_all.Goals as goal
 
@@ -13,8 +10,3 @@ skip-returns-in-And t c = c.skip_all.ensures ∙ listed_end _ _ _ c.requires _ c
 
 pub skip-returns-in_default : goal.skip-returns-in_default
 skip-returns-in_default t c = single_ends _ _ _ c.requires _ c.kind_at.ensures c.in_default.not-Not c.in_default.not-And c.in_default.not-Or
-
-pub skip_all-loop-preserved : goal.skip_all-loop-preserved
-skip_all-loop-preserved t c =
-    let f = first (ground (table c.args.table.now) c.args.levels) c.loop.counter c.loop.next c.skip-next.result (omega arith) c.skip-next.ensures c.loop.invariant.stand in
-    record { stand = f.others; end = f.ends ∙ c.loop.invariant.end }

@@ -1,14 +1,11 @@
-use Rattle.table.proofs.Lengths.{operands_long}
-use Rattle.std.proofs.Common.{◌≡◌, ◌+◌, ◌-◌, ◌≤◌, List, [], length, drop, sym, refl, ap, ◌∙◌, arith}
-use Rattle.std.proofs.lemmas.List.{drop_all}
+use Rattle.std.proofs.Common.{◌≡◌, ◌+◌, ◌-◌, [], drop, sym, refl, ap, ◌∙◌, arith}
 use Rattle.table.specs.Reading.{many}
 use Rattle.model.specs.Trees.{Fact, number}
 use Rattle.adl.specs.Held.{held, tree_of}
 use Rattle.adl.specs.Reads.{fact, facts_place}
-use Rattle.protocol.specs.Steps.{put_numbers}
-use Rattle.adl_theorems.proofs.Standing.{stands, facts_length}
+use Rattle.adl_theorems.proofs.Standing.{stands}
 use Rattle.runs.proofs.Sheets.{terms_over, atom_over}
-use Rattle.runs.proofs.FactPuts.{numbered, next_in, put_next}
+use Rattle.runs.proofs.FactPuts.{next_in, put_next}
 use Rattle.runs.proofs.facts.put_facts.Goals as goal
 
 pub loop-k-init : goal.loop-k-init
@@ -17,31 +14,11 @@ loop-k-init g c =
     let n : k.table.sizes.facts - 0 ≡ k.table.sizes.facts = omega arith in
     (refl, ap (λ x. many (fact (held k)) x (facts_place (held k))) n ∙ (stands (held k) k.formed).facts, refl)
 
-pub offset_bounds-task-at : goal.offset_bounds-task-at
-offset_bounds-task-at g c =
-    let w = next_in c.args.task.now c.loop-k._k c.loop-k.at c.loop-k-test.true c.loop-k.invariant.1 in
-    omega (arith, w.2.inside, c.args.task.now.table.short)
-
-pub bounds-task-at : goal.bounds-task-at
-bounds-task-at g c =
-    let w = next_in c.args.task.now c.loop-k._k c.loop-k.at c.loop-k-test.true c.loop-k.invariant.1 in
-    omega (arith, w.2.inside, (operands_long c.args.task.now.table.entries c.args.task.now.table.whole))
-
-pub overflow_add-at-in-loop-k : goal.overflow_add-at-in-loop-k
-overflow_add-at-in-loop-k g c =
-    let w = next_in c.args.task.now c.loop-k._k c.loop-k.at c.loop-k-test.true c.loop-k.invariant.1 in
-    omega (arith, w.2.inside, c.args.task.now.table.short)
-
 pub atom_number-requires : goal.atom_number-requires
 atom_number-requires g c =
     let w = next_in c.args.task.now c.loop-k._k c.loop-k.at c.loop-k-test.true c.loop-k.invariant.1 in
     let e = c.of-sheet.ensures in
     (w.2.arguments, w.1, terms_over c.of-sheet.result c.args.task.now [] e.task e.depth e.bound w.2.stand)
-
-pub overflow_add-at-in-loop-k-3 : goal.overflow_add-at-in-loop-k-3
-overflow_add-at-in-loop-k-3 g c =
-    let w = next_in c.args.task.now c.loop-k._k c.loop-k.at c.loop-k-test.true c.loop-k.invariant.1 in
-    omega (arith, w.2.ends, w.2.ends_inside, c.arity.ensures, c.args.task.now.table.short)
 
 pub loop-k-preserved : goal.loop-k-preserved
 loop-k-preserved g c =
@@ -57,15 +34,3 @@ loop-k-preserved g c =
       ap (λ x. many (fact (held k)) (k.table.sizes.facts - (c.loop-k._k + 1)) x) e ∙ w.4,
       put_next (tree_of k) (m.extent c.args.store.now) _ c.atom_number.result w.0 (drop c.loop-k._k (tree_of k).facts) (drop (c.loop-k._k + 1) (tree_of k).facts) (m.facts c.loop-k.store) _ _ w.3 c.loop-k.invariant.0 a c.put.ensures.set c.loop-k.invariant.2,
     )
-
-pub returns : goal.returns
-returns g c =
-    let k = c.args.task.now in
-    let m = g.S.Store in
-    let inv = c.loop-k.invariant in
-    let fs = (tree_of k).facts in
-    let n : length (tree_of k).facts ≤ c.loop-k._k = omega (arith, facts_length (held k) k.formed, c.loop-k-test.false) in
-    record {
-      size = inv.0;
-      set = sym (ap (λ (zs : List Fact). put_numbers (m.extent c.args.store.now) (numbered (tree_of k) zs) (m.facts c.loop-k.store)) (drop_all c.loop-k._k fs n)) ∙ inv.2;
-    }

@@ -1,9 +1,5 @@
-use Rattle.std.proofs.Common.{◌<◌, Bool, List, map, length, take, sym, ap, ◌∙◌, arith}
+use Rattle.std.proofs.Common.{◌<◌, Bool, length, take, sym, ap, ◌∙◌, arith}
 use mathlib.Core.Bool.{beq}
-use Rattle.std.proofs.lemmas.List.{take_all}
-use Rattle.rising.specs.declared.literal.Literal.{Literal}
-use Rattle.protocol.specs.Steps.{put_literals}
-use Rattle.runs.specs.Effects.{meant}
 use Rattle.runs.proofs.Puts.{turn_taken, turn_left}
 use Rattle.runs.proofs.step.put_window.Goals as goal
 use Rattle.runs.proofs.step.put_window.Goals.{then-adds, else-adds}
@@ -23,12 +19,3 @@ loop-literal-preserved g c =
         ap m.facts w.store-is ∙ turn_left _ _ xs c.loop-literal.literal-index _ _ _ h (ap (λ (b : Bool). beq b c.args.adds) (sym c.adds.ensures) ∙ w.if-adds.false) c.loop-literal.invariant.1,
       )
     ]
-
-pub returns : goal.returns
-returns g c =
-    let m = g.S.Store in
-    let xs = take c.args.window.now.len c.args.window.now.items in
-    record {
-      size = c.loop-literal.invariant.0;
-      set = c.loop-literal.invariant.1 ∙ ap (λ (ys : List Literal). put_literals (m.extent c.args.store.now) c.args.adds (map meant ys) (m.facts c.args.store.now)) (take_all c.loop-literal.literal-index xs c.loop-literal-test.false);
-    }

@@ -6,8 +6,6 @@ use Rattle.model.specs.Trees.{all, any, Formula, constant, atom, equal, junction
 use Rattle.model.specs.Meaning.{object_of, bind, value}
 use Rattle.runs.specs.declared.sheet.Scene.{Scene}
 use Rattle.adl.specs.Reads.{formulas_of}
-use Rattle.std.specs.Borrow.{Bor}
-use Rattle.adl.specs.declared.task.Task.{Task}
 use Rattle.adl.specs.Held.{held, tree_of}
 use Rattle.protocol.specs.Shown.{shown}
 use Rattle.runs.specs.Shown.{bound, OneMore, FormulaIn, FormulasIn, value_in}
@@ -386,23 +384,6 @@ pub judge_each-bounds-task-type_number : goal.judge_each-bounds-task-type_number
 judge_each-bounds-task-type_number t c =
     let k = c.args.self.now.sheet.task.now in
     omega (arith, c.requires.known, declarations_inside (held k) k.formed)
-
-pub judge_each-loop-o-init : goal.judge_each-loop-o-init
-judge_each-loop-o-init t c = (refl, λ f j s k l h. let z : ⊥ = omega arith in absurd z)
-
-pub judge_each-bind-before-requires : goal.judge_each-bind-before-requires
-judge_each-bind-before-requires t c =
-    let same = c.loop-o.invariant.0 in
-    record {
-      room = omega (arith, c.requires.room, ap (λ (s : Scene). s.sheet.depth) same);
-      known = omega (arith, ap (λ (s : Scene). s.sheet.task.now.table.sizes.objects) same);
-    }
-
-pub judge_each-judge-part-requires : goal.judge_each-judge-part-requires
-judge_each-judge-part-requires t c =
-    let p = c.requires.stands in
-    let more = subst (λ a. OneMore a c.loop-o.o c.bind-before.new.self) c.loop-o.invariant.0 c.bind-before.ensures.bound in
-    (omega (arith, ap (λ (b : Bor Task). b.now.table.sizes.entries) more.task), (p.0, p.1, formula_seen more p.2))
 
 pub judge_each-returns-then-part-undecided : goal.judge_each-returns-then-part-undecided
 judge_each-returns-then-part-undecided t c =

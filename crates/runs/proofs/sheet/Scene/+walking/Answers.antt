@@ -5,8 +5,6 @@ use Rattle.table.specs.declared.kind.Kind.TheVariants.{And, Forall, When}
 use Rattle.model.specs.Lists.{below, keep, gather}
 use Rattle.model.specs.Meaning.{bind}
 use Rattle.model.specs.Trees.{Consequent, Effect, change, conjunction, for_each, when, in_set}
-use Rattle.std.specs.Borrow.{Bor}
-use Rattle.adl.specs.declared.task.Task.{Task}
 use Rattle.runs.specs.declared.sheet.Scene.{Scene}
 use Rattle.runs.specs.declared.window.Window.{Window}
 use Rattle.runs.specs.Effects.{ConsequentIn, EffectAt, EffectIn, EffectsIn, consequent_literals, effect_literals, literals_in, all_literals_in}
@@ -245,20 +243,6 @@ walk_each-returns-then-is_packed t c =
           packed packed_stays _ c.loop-o.o T.table.sizes.objects (omega arith) (sym c.if-is_packed.ensures) (c.loop-o.invariant.1 e j s)
           ∙ ap (λ (xs : List ℕ). fold offered c.args.window.now (gather F xs)) (members_in (held T) T.formed c.args.type_number c.requires.known);
     }
-
-pub walk_each-bind-before-requires : goal.walk_each-bind-before-requires
-walk_each-bind-before-requires t c =
-    let same = c.loop-o.invariant.0 in
-    record {
-      room = omega (arith, c.requires.room, ap (λ (s : Scene). s.sheet.depth) same);
-      known = omega (arith, ap (λ (s : Scene). s.sheet.task.now.table.sizes.objects) same);
-    }
-
-pub walk_each-walk-requires : goal.walk_each-walk-requires
-walk_each-walk-requires t c =
-    let p = c.requires.stands in
-    let more = subst (λ a. OneMore a c.loop-o.o c.bind-before.new.self) c.loop-o.invariant.0 c.bind-before.ensures.bound in
-    (omega (arith, ap (λ (b : Bor Task). b.now.table.sizes.entries) more.task), (p.0, p.1, effect_seen more p.2))
 
 pub walk_each-loop-o-preserved : goal.walk_each-loop-o-preserved
 walk_each-loop-o-preserved t c =

@@ -5,11 +5,6 @@ use Rattle.runs.specs.Effects.{EffectIn, literals_in}
 use Rattle.protocol.specs.Steps.{put_step}
 use Rattle.runs.proofs.sheet.Scene.attempt.Goals as goal
 
-pub take_step-requires : goal.take_step-requires
-take_step-requires g c =
-    let p = c.requires.effect in
-    (p.0, p.1, subst (λ s. EffectIn s c.args.effect p.0 p.1) (sym c.judge-applicable.ensures.same) p.2)
-
 pub returns-then-applicable : goal.returns-then-applicable
 returns-then-applicable g c =
     let m = g.S.Store in

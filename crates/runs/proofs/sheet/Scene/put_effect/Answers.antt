@@ -1,4 +1,4 @@
-use Rattle.std.proofs.Common.{◌≡◌, ℕ, ◌+◌, ◌^◌, ◌<◌, ◌≤◌, length, take, drop, fold, sym, ap, ◌∙◌, subst, arith}
+use Rattle.std.proofs.Common.{◌≡◌, ℕ, ◌+◌, ◌^◌, ◌<◌, ◌≤◌, length, take, drop, fold, ap, ◌∙◌, subst, arith}
 use Rattle.model.specs.Trees.{Effect}
 use Rattle.runs.specs.declared.sheet.Scene.{Scene}
 use Rattle.runs.specs.declared.window.Window.{Window}
@@ -34,11 +34,6 @@ room g c =
     let m = few_literals p.2 k.table.short (tree_of k) (omega (arith, same_objects (held k) k.formed, k.table.objects)) (shown A.image.now) (bound A.sheet) in
     omega arith
 
-pub walk-requires : goal.walk-requires
-walk-requires g c =
-    let p = c.requires in
-    (p.0, p.1, subst (λ s. EffectIn s c.args.at p.0 p.1) (sym c.loop-at.invariant.0) p.2)
-
 pub put_window-requires : goal.put_window-requires
 put_window-requires g c =
     let p = c.requires in
@@ -46,9 +41,6 @@ put_window-requires g c =
 
 pub overflow_add-from : goal.overflow_add-from
 overflow_add-from g c = let r = room g c in omega arith
-
-pub loop-at-smaller : goal.loop-at-smaller
-loop-at-smaller g c = let r = room g c in omega arith
 
 pub returns-then-window-lt64 : goal.returns-then-window-lt64
 returns-then-window-lt64 g c =

@@ -16,8 +16,3 @@ returns g c =
           (c.put_effect.ensures.set e j h)
           (c.put_effect-2.ensures.set e j (subst (λ s. EffectIn s c.args.at e j) (sym c.put_effect.ensures.same) h));
     }
-
-pub put_effect-requires-2 : goal.put_effect-requires-2
-put_effect-requires-2 g c =
-    let p = c.requires in
-    (p.0, p.1, subst (λ s. EffectIn s c.args.at p.0 p.1) (sym c.put_effect.ensures.same) p.2)

@@ -12,7 +12,7 @@ use Rattle.runs.specs.Shown.{bound}
 use Rattle.runs.specs.Standing.{TermAt, TermsAt}
 use Rattle.runs.proofs.Counting.{digits_push, digit_small, few_digits}
 use Rattle.adl_theorems.proofs.Standing.{same_objects, arity_at, arity_small, arities_length, atoms_bounded}
-use Rattle.runs.proofs.Shapes.{term_begins, as_many_terms, each_term}
+use Rattle.runs.proofs.Shapes.{as_many_terms, each_term}
 use Rattle.runs.proofs.sheet.Sheet.atom_number.Goals as goal
 
 -- fewer than three arguments come before another
@@ -28,9 +28,6 @@ overflow_mul-digits c =
     let t = c.args.self.now.task.now in
     let b = before t c.args.predicate c.loop-k.k c.arity-k-end.result c.requires.2.predicate c.loop-k-test.true c.arity-k-end.ensures in
     omega (arith, few_digits c.loop-k.digits t.table.sizes.objects c.loop-k.k c.loop-k.invariant.0 (omega arith) b)
-
-pub overflow_add-at : goal.overflow_add-at
-overflow_add-at c = let p = c.requires in omega (arith, term_begins (next_term p.2 c.loop-k.k c.arity-k-end.result c.loop-k-test.true c.arity-k-end.ensures))
 
 pub term-requires : goal.term-requires
 term-requires c =
