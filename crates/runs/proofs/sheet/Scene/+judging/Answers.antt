@@ -397,7 +397,7 @@ judge_each-returns-then-part-undecided t c =
       value = λ f j s.
           let v = instance A c.loop-o.self c.bind-before.new.self o c.args.at c.judge-part.result.1 c.judge-part.result.0 c.loop-o.invariant.0 c.bind-before.ensures.bound c.judge-part.ensures.value l f j s in
           sym (over_one (joining c.args.junction) c.of_none-undecided.result c.of_none-undecided.ensures c.judge-part.result.0 (λ o. value (tree_of T) (shown A.image.now) (bind (bound A.sheet) o) f) (members (tree_of T) c.args.type_number) o
-          (is_member (held T) T.formed c.args.type_number c.requires.known o c.loop-o-test.true (eq-eqb _ _ c.if-members-o-eq1.true))
+          (is_member (held T) T.formed c.args.type_number c.requires.known o (omega arith) (eq-eqb _ _ c.if-members-o-eq1.true))
           (sym v) c.if-part-undecided.true);
     }
 
