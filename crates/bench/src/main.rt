@@ -4,7 +4,9 @@
 mod large;
 
 use adl::{Sizes, Task};
-use middleware::{LOCK, MUTEX, PUBLISHER, SIZES, TABLE, UNLOCK};
+use book::Book;
+use book_runs::BookRun;
+use middleware::{BOOK_SIZES, BOOK_TABLE, LOCK, MUTEX, PUBLISHER, SIZES, TABLE, UNLOCK};
 use protocol::{Name, Run};
 use runs::TaskRun;
 use std::rt::{Clock, Env};
@@ -39,9 +41,14 @@ struct Course<'c> {
     names: &'c [Name<'c>],
 }
 
-// Performs the names round after round; answers how many steps were taken, none where no run begins.
-fn perform_all(task: &Task, store: &mut Bits, image: &mut [u8], names: &[Name]) -> u32 {
-    let Ok(mut run) = TaskRun::begin(task, store) else {
+// Performs the names round after round on a task or a book; answers how many steps were taken, none where no run begins.
+fn perform_all<R: Run>(
+    subject: R::Of,
+    store: &mut Bits,
+    image: &mut [u8],
+    names: &[Name],
+) -> u32 {
+    let Ok(mut run) = R::begin(subject, store) else {
         return 0;
     };
     for _ in 0..ROUNDS {
@@ -71,7 +78,7 @@ fn measure(rt: &(impl Clock + Print), course: &Course) -> io::Result<()> {
     let mut image = [0; 65536];
     let mut store = Bits::over(&mut bytes);
     let start = Instant::now(rt)?;
-    let steps = perform_all(&task, &mut store, &mut image, course.names);
+    let steps = perform_all::<TaskRun>(&task, &mut store, &mut image, course.names);
     let whole = start.elapsed(rt)?.as_micros().max(1);
     let start = Instant::now(rt)?;
     copy_often(&task, &store, &mut image, steps);
@@ -81,7 +88,27 @@ fn measure(rt: &(impl Clock + Print), course: &Course) -> io::Result<()> {
     println!(rt; "{words}: {rate} steps per second, copying takes {share} of 100 parts")
 }
 
-fn measure_both(rt: &(impl Clock + Print)) -> io::Result<()> {
+// The same steps as on the scenario, by a run of its book.
+fn measure_book(rt: &(impl Clock + Print)) -> io::Result<()> {
+    let arrays = Arrays::of(&BOOK_TABLE);
+    let mut book = Book::new();
+    if book
+        .open(BOOK_SIZES, &arrays.kinds, &arrays.operands)
+        .is_err()
+    {
+        return println!(rt; "the scenario's book: it does not open");
+    }
+    let mut bytes = [0; 2];
+    let mut image = [0; 16];
+    let mut store = Bits::over(&mut bytes);
+    let start = Instant::now(rt)?;
+    let steps = perform_all::<BookRun>(&book, &mut store, &mut image, &LOCKING);
+    let whole = start.elapsed(rt)?.as_micros().max(1);
+    let rate = u128::from(steps) * 1_000_000 / whole;
+    println!(rt; "the scenario's book: {rate} steps per second")
+}
+
+fn measure_all(rt: &(impl Clock + Print)) -> io::Result<()> {
     let scenario = Arrays::of(&TABLE);
     let large = Arrays::of(&large::TABLE);
     let locking = Course {
@@ -99,12 +126,13 @@ fn measure_both(rt: &(impl Clock + Print)) -> io::Result<()> {
         names: &large::TURNING,
     };
     measure(rt, &locking)?;
+    measure_book(rt)?;
     measure(rt, &turning)
 }
 
 fn main(rt: HostRuntime) -> io::Result<()> {
     match env::args(&rt)?.nth(1) {
-        Some(_) => measure_both(&rt),
+        Some(_) => measure_all(&rt),
         None => println!(rt; "to measure, give any word"),
     }
 }

@@ -7,7 +7,7 @@ mod story;
 
 use adl::Sizes;
 pub use ground_actions::{BOOK_ENTRIES, BOOK_SIZES, BOOK_TABLE};
-pub use story::{QUESTIONS, STEPS, Step};
+pub use story::STORY;
 use table::Kind;
 
 // Objects.

@@ -1,12 +1,14 @@
-// Runs the scenario: a timeout handler sets the mutex free while the publisher still writes, and the reader shows a mixed message.
+// Plays the scenario on its task and on its book: a timeout handler sets the mutex free while the publisher still writes, and the reader
+// shows a mixed message.
 #![tactic(auto)]
 
 mod story;
 
-use middleware::TABLE;
+use middleware::{BOOK_TABLE, TABLE};
+use std::io;
 use story::tell;
 use trials::Arrays;
 
-fn main(rt: HostRuntime) -> anyhow::Result<()> {
-    tell(&rt, &Arrays::of(&TABLE))
+fn main(rt: HostRuntime) -> io::Result<()> {
+    tell(&rt, &Arrays::of(&TABLE), &Arrays::of(&BOOK_TABLE))
 }

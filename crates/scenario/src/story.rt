@@ -1,60 +1,47 @@
-// The story, call by call: each call in words, and its answer.
+// The story, call by call: each call in words, and what the task and its book answer.
 use adl::Task;
-use middleware::{ENTRIES, QUESTIONS, SIZES, STEPS};
-use protocol::Run;
-use runs::TaskRun;
+use book::Book;
+use columns::{MOST, Side};
+use middleware::{BOOK_ENTRIES, BOOK_SIZES, ENTRIES, SIZES, STORY};
+use protocol::Answer;
 use std::io;
 use store::Bits;
-use trials::{Arrays, Told};
+use trials::Arrays;
 
-// Each answer in other words.
-fn ask(rt: &impl Print, run: &TaskRun, store: &Bits) -> io::Result<()> {
-    for (words, atom) in QUESTIONS {
-        match run.holds(store, atom) {
-            Ok(true) => println!(rt; "    {words}")?,
-            Ok(false) => println!(rt; "    not: {words}")?,
-            Err(fault) => println!(rt; "    {words}? {fault}")?,
-        }
-    }
-    Ok(())
+fn play(rt: &impl Print, task: &Task, book: &Book) -> io::Result<()> {
+    let mut task_bytes = [0; 8];
+    let mut book_bytes = [0; 2];
+    let mut by_task = Side {
+        store: Bits::over(&mut task_bytes),
+        image: &mut [0; 64],
+        answers: &mut [Answer::NoRun; MOST],
+    };
+    let mut by_book = Side {
+        store: Bits::over(&mut book_bytes),
+        image: &mut [0; 16],
+        answers: &mut [Answer::NoRun; MOST],
+    };
+    columns::tell(rt, "", &STORY, task, &mut by_task, book, &mut by_book)
 }
 
-fn play(rt: &impl Print, run: &mut TaskRun, store: &mut Bits, image: &mut [u8]) -> io::Result<()> {
-    println!(rt; "the run has begun")?;
-    for step in &STEPS {
-        let answer = run.perform(store, image, step.name);
-        println!(rt; "{}: {}", step.words, Told(answer.map(|()| "done")))?;
-        ask(rt, run, store)?;
-    }
-    match run.goal(store, image) {
-        Ok(true) => println!(rt;
-            "the bad state has come about: the new heading with the old track"
-        ),
-        Ok(false) => println!(rt; "the bad state has not come about"),
-        Err(fault) => println!(rt; "goal: {fault}"),
-    }
-}
-
-// Loads the table, begins a run, plays the story and ends it.
-pub(crate) fn tell(rt: &impl Print, arrays: &Arrays<ENTRIES>) -> anyhow::Result<()> {
+// Loads the task, opens its book and plays the story on both.
+pub(crate) fn tell(
+    rt: &impl Print,
+    task_arrays: &Arrays<ENTRIES>,
+    book_arrays: &Arrays<BOOK_ENTRIES>,
+) -> io::Result<()> {
     let mut task = Task::new();
-    if let Err(fault) = task.load(SIZES, &arrays.kinds, &arrays.operands) {
-        println!(rt; "load: {fault}")?;
-        return Ok(());
+    if let Err(fault) = task.load(SIZES, &task_arrays.kinds, &task_arrays.operands) {
+        return println!(rt; "load: {fault}");
     }
     let atoms = task.atoms();
-    println!(rt; "the table is loaded: {atoms} atoms")?;
-    let mut bytes = [0; 8];
-    let mut image = [0; 64];
-    let mut store = Bits::over(&mut bytes);
-    match TaskRun::begin(&task, &mut store) {
-        Ok(mut run) => {
-            let told = play(rt, &mut run, &mut store, &mut image);
-            let steps = run.end();
-            told?;
-            println!(rt; "the run has ended after {steps} steps")?;
-        }
-        Err(fault) => println!(rt; "begin: {fault}")?,
+    println!(rt; "the task is loaded: {atoms} atoms")?;
+    let mut book = Book::new();
+    if let Err(fault) = book.open(BOOK_SIZES, &book_arrays.kinds, &book_arrays.operands) {
+        return println!(rt; "open: {fault}");
     }
-    Ok(())
+    let facts = book.facts();
+    println!(rt; "its book is opened: {facts} relevant atoms")?;
+    println!(rt; "the bad state: the display shows the new heading with the old track")?;
+    play(rt, &task, &book)
 }
