@@ -2,9 +2,11 @@
 #![tactic(auto)]
 
 ghost use Rattle.std.specs.Prelude.{◌≡◌, Some};
-ghost use Rattle.fault.specs.Faults.{number_of, cause_of};
+ghost use Rattle.fault.specs.Faults.{number_of, cause_of, refusal};
+ghost use Rattle.fault.specs.declared.Layer.TheVariants as layer;
 ghost use Rattle.fault.specs.Texts.{layer_text, fault_text};
 
+use std::alloc::AllocError;
 use std::fmt;
 
 // Why a call refused.
@@ -26,6 +28,12 @@ pub enum Cause {
     TooManyAtoms,
     // atoms or names do not rise, or an atom is listed twice
     NotRising,
+    // the book is longer than an array that is to hold it, or than a book may be
+    BookTooLong,
+    // the list is shorter than the different literals that it is to hold
+    ListTooShort,
+    // an effect adds an atom that is always false, or deletes one that is always true
+    LiteralClashes,
     // the store is too small
     StoreTooSmall,
     // the image is too short
@@ -40,6 +48,8 @@ pub enum Cause {
     StepLimit,
     // the number is not below the store's size
     OutsideStore,
+    // there is no memory left
+    NoMemory,
 }
 
 // The layer that refused.
@@ -76,6 +86,7 @@ impl Fault {
 impl From<Cause> for u8 {
     ghost from_gives = { λ cause number. (number ≡ number_of cause) × (cause_of number ≡ cause) };
 
+    #[tactic(auto, unfolding(crate::specs::Faults::writing_cause))]
     fn from(cause: Cause) -> u8 {
         match cause {
             Cause::SizeOutOfLimits => 1,
@@ -86,6 +97,9 @@ impl From<Cause> for u8 {
             Cause::TooLongOrDeep => 6,
             Cause::TooManyAtoms => 7,
             Cause::NotRising => 8,
+            Cause::BookTooLong => 11,
+            Cause::ListTooShort => 12,
+            Cause::LiteralClashes => 13,
             Cause::StoreTooSmall => 21,
             Cause::ImageTooShort => 22,
             Cause::NameDoesNotFit => 23,
@@ -93,6 +107,7 @@ impl From<Cause> for u8 {
             Cause::NoSuchAtom => 25,
             Cause::StepLimit => 26,
             Cause::OutsideStore => 31,
+            Cause::NoMemory => 61,
         }
     }
 }
@@ -120,5 +135,15 @@ impl fmt::Display for Fault {
         let layer = self.layer;
         let place = self.place;
         write!(f, "refused {cause} {layer} {place}")
+    }
+}
+
+// Only what is done for books allocates.
+impl From<AllocError> for Fault {
+    ghost from_gives = { λ _ fault. fault ≡ refusal 61 layer.Book 0 };
+
+    #[tactic(auto, unfolding(crate::specs::Faults::writing_cause))]
+    fn from(_: AllocError) -> Fault {
+        Fault::new(Cause::NoMemory, Layer::Book, 0)
     }
 }
