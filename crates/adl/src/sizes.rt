@@ -1,5 +1,5 @@
 // The sizes that a task table opens with.
-ghost use Rattle.std.specs.Prelude.{◌≡◌, ◌≤◌, OnOk};
+ghost use Rattle.std.specs.Prelude.{◌≡◌, ◌<◌, ◌≤◌, OnOk};
 
 use fault::{Cause, Fault, Layer};
 
@@ -19,7 +19,7 @@ impl Sizes {
     // Whether each is inside its limits, first to last.
     pub(crate) fn check(self) -> Result<(), Fault>
         ensures same { result ≡ sizes_fit self }
-        ensures limits { OnOk result ((self.objects ≤ 32) × (self.types ≤ 32) × (self.predicates ≤ 32) × (self.facts ≤ 4096) × (self.operators ≤ 32) × (self.entries ≤ 16384)) }
+        ensures limits { OnOk result ((self.objects ≤ 32) × (self.types ≤ 32) × (self.predicates ≤ 32) × (self.facts ≤ 4096) × (self.operators ≤ 32) × (self.entries ≤ 16384) × (0 < self.objects)) }
     {
         // the place of the refusal is the number of the size, as the page on refusals lists it
         let outside = if self.objects == 0 || self.objects > 32 {

@@ -1,5 +1,5 @@
 // A task table: sizes inside their limits, and as many entries.
-ghost use Rattle.std.specs.Prelude.{◌≡◌, ◌≤◌, IfOk};
+ghost use Rattle.std.specs.Prelude.{◌≡◌, ◌<◌, ◌≤◌, IfOk};
 ghost use Rattle.fault.specs.declared.Layer.TheVariants as layer;
 ghost use Rattle.table.specs.Answers.{and_then, lengths_fit, whether};
 ghost use Rattle.adl.specs.Loads.{sizes_fit, given};
@@ -16,6 +16,7 @@ pub struct TaskTable<'a> {
     pub sizes: Sizes,
     pub entries: Entries<'a>,
     ghost whole: { entries.count ≡ sizes.entries },
+    ghost some_object: { 0 < sizes.objects },
     ghost objects: { sizes.objects ≤ 32 },
     ghost types: { sizes.types ≤ 32 },
     ghost predicates: { sizes.predicates ≤ 32 },

@@ -12,7 +12,7 @@ use Rattle.adl.specs.Loads.{sizes_fit, lengths_fit, given, done, accepted, task_
 use Rattle.fault.specs.declared.Layer.TheVariants as layer
 use Rattle.table.proofs.Accepting.{both_accept, not_refused, done_good, long_enough}
 use Rattle.adl_theorems.specs.Writes.{write_formula, write_fact, write_operator, write_task, Writes, SmallOperator, WithinLimits}
-use Rattle.adl_theorems.specs.Theorems.{WhatLoadsWasWritten}
+use Rattle.adl_theorems.specs.Theorems.{WhatLoadsWasWritten, RecordsHoldTasksWithinLimits}
 use Rattle.adl.specs.declared.sizes.Sizes.{Sizes}
 use Rattle.adl_theorems.proofs.Inverting.{series_each, many_each}
 use Rattle.adl.proofs.Declared.{predicate_read}
@@ -152,3 +152,11 @@ what_loads_was_written z ks os e =
       limits = task_limited z ks os (sized z a.0) formed;
       only = λ x well within writes. sym (what_is_written_loads x well within z ks os writes long.0 long.1).1;
     }
+
+-- a record has sizes within their limits
+pub records_within_limits : RecordsHoldTasksWithinLimits
+records_within_limits r =
+    let t = r.table in
+    task_limited t.sizes t.entries.kinds.now t.entries.operands.now
+        (record { some_object = t.some_object; objects = t.objects; types = t.types; predicates = t.predicates; facts = t.facts; operators = t.operators; entries = t.short })
+        r.formed

@@ -28,3 +28,7 @@ WhatLoadsWasWritten = (z : Sizes) (ks os : List ℕ) → loads z ks os ≡ Ok tt
 -- a record that exists holds a well-formed task
 abbrev pub RecordsHoldWellFormedTasks : Type 0
 RecordsHoldWellFormedTasks = (r : Record) → WellFormed (tree_of r)
+
+-- and one within the limits
+abbrev pub RecordsHoldTasksWithinLimits : Type 0
+RecordsHoldTasksWithinLimits = (r : Record) → WithinLimits (tree_of r)

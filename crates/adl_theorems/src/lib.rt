@@ -1,7 +1,7 @@
 // Theorems on loading: each function's contract names one.
 #![tactic(auto)]
 
-ghost use Rattle.adl_theorems.specs.Theorems.{WhatIsWrittenLoads, WhatLoadsWasWritten, RecordsHoldWellFormedTasks};
+ghost use Rattle.adl_theorems.specs.Theorems.{WhatIsWrittenLoads, WhatLoadsWasWritten, RecordsHoldWellFormedTasks, RecordsHoldTasksWithinLimits};
 
 pub fn what_is_written_loads()
     ensures { WhatIsWrittenLoads }
@@ -13,4 +13,8 @@ pub fn what_loads_was_written()
 
 pub fn records_hold_well_formed_tasks()
     ensures { RecordsHoldWellFormedTasks }
+{}
+
+pub fn records_hold_tasks_within_limits()
+    ensures { RecordsHoldTasksWithinLimits }
 {}
