@@ -31,7 +31,7 @@ keep_length p (x ∷ xs) = go (p x) (keep_length p xs)
     go true h = omega arith
     go false h = omega arith
 
-below_length : (n : ℕ) → length (below n) ≡ n
+pub below_length : (n : ℕ) → length (below n) ≡ n
 unfolding below
 below_length zero = refl
 below_length (suc n) = omega (arith, length-append (below n) (n ∷ []), below_length n)

@@ -34,7 +34,7 @@ pub length_others : (xs : List ℕ) → length (others xs) ≡ length xs - 1
 length_others xs = ap length (take_rest xs 1) ∙ length-drop 1 xs
 
 -- a test of equality may be turned
-eq_turned : (m n : ℕ) → nat_eq m n ≡ nat_eq n m
+pub eq_turned : (m n : ℕ) → nat_eq m n ≡ nat_eq n m
 eq_turned m n = both_ways (nat_eq m n) (nat_eq n m) (λ e. eq-eqb n m (sym (eqb-true m n e))) (λ e. eq-eqb m n (sym (eqb-true n m e)))
 
 -- what a slice's `contains` tells

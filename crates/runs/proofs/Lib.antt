@@ -4,6 +4,9 @@ pub mod Sheets
 pub mod Junctions
 pub mod EffectShapes
 pub mod Walks
+pub mod Appending
+pub mod Whens
+pub mod EffectInstances
 pub mod Filling
 pub mod Beginning
 pub mod Performing
@@ -13,3 +16,8 @@ pub mod Fittings
 pub mod Puts
 pub mod FactPuts
 pub mod Turns
+pub mod Touching
+pub mod Choosing
+pub mod Writing
+pub mod Parts
+pub mod Instances

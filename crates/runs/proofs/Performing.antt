@@ -11,7 +11,7 @@ use Rattle.model.proofs.Reaching.{literals_part, effect_of_known}
 use Rattle.model.proofs.Within.{values_rest}
 use Rattle.store.specs.Sets.{pictured}
 use Rattle.protocol.specs.Shown.{shown}
-use Rattle.protocol.specs.Machines.{refused}
+use Rattle.protocol.specs.Machines.{Performed, refused}
 use Rattle.protocol.specs.TaskCalls.{task_goal, task_perform}
 use Rattle.runs.specs.Runs.{goal_by_image, perform_by_puts}
 use Rattle.protocol.proofs.Images.{image_shows}
@@ -84,7 +84,7 @@ judges_the_goal t formed size s im =
     ap (λ (b : Bool). cond (ltb size n) (record { image = im; answer = refused 21 n }) (cond (ltb (length im) n) (record { image = im; answer = refused 22 n }) (record { image = pictured n s im; answer = Ok b }))) e
 
 -- the step that is judged in the image and put into the store is the step of the task
-pub takes_the_step : (t : Task) → WellFormed t → (size n : ℕ) (s : State) (im : List ℕ) (m : Name) → perform_by_puts t size n s im m ≡ task_perform t size n s im m
+takes_the_step : (t : Task) → WellFormed t → (size n : ℕ) (s : State) (im : List ℕ) (m : Name) → perform_by_puts t size n s im m ≡ task_perform t size n s im m
 takes_the_step t formed size n s im m =
     if_passed (ltb n 65535) _ _ _ λ _. unless_passed (ltb size (atoms t)) _ _ _ λ room. unless_passed (ltb (length im) (atoms t)) _ _ _ λ _. if_passed (fits t m) _ _ _ λ fit.
     let seen : State = shown (pictured (atoms t) s im) in
@@ -104,3 +104,7 @@ takes_the_step t formed size n s im m =
     (record { steps = n + 1; set = z; image = pictured (atoms t) s im; answer = Ok tt })
     (record { steps = n; set = s; image = pictured (atoms t) s im; answer = refused 24 n }))
     judged (put_step_is size ls s below ∙ ap (λ (z : List Literal). changed z s) same)
+
+-- so what is that step is the step of the task
+pub is_the_step : (t : Task) → WellFormed t → (size n : ℕ) (s : State) (im : List ℕ) (m : Name) {x : Performed} → x ≡ perform_by_puts t size n s im m → x ≡ task_perform t size n s im m
+is_the_step t formed size n s im m e = e ∙ takes_the_step t formed size n s im m

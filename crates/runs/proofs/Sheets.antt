@@ -11,6 +11,7 @@ use Rattle.runs.specs.declared.sheet.Sheet.{Sheet}
 use Rattle.runs.specs.declared.sheet.Scene.{Scene}
 use Rattle.runs.specs.Objects.{within_prop}
 use Rattle.model.specs.Meaning.{State, bind, atom_of, value}
+use Rattle.model.specs.Trees as tree
 use Rattle.model.specs.Trees.{Term, Formula, Effect}
 use Rattle.adl.specs.Held.{held, tree_of}
 use Rattle.protocol.specs.Shown.{shown}
@@ -108,3 +109,7 @@ module _ (s : Sheet) (k : Task) (os : List ℕ) (t : s.task.now ≡ k) (d : s.de
 
   pub literals_over : (im : State) (e : Effect) → effect_literals (tree_of s.task.now) im (bound s) e ≡ effect_literals (tree_of k) im os e
   literals_over im e = ap (λ k. effect_literals (tree_of k) im (bound s) e) t ∙ ap (λ sh. effect_literals (tree_of k) im sh e) b
+
+  -- what holds of the task and the objects of the sheet
+  pub holds_over : (P : tree.Task → List ℕ → Type 0) → P (tree_of s.task.now) (bound s) → P (tree_of k) os
+  holds_over P h = subst (P (tree_of k)) b (subst (λ k. P (tree_of k) (bound s)) t h)

@@ -1,6 +1,7 @@
 -- What a task's record has at its places, and a step that is taken.
 use Rattle.std.proofs.Common.{◌≡◌, ℕ, ◌+◌, ◌<◌, ◌≤◌, true, false, ltb, List, [], ◌∷◌, length, get_or, Ok, sym, refl, ap, ◌∙◌, subst, arith}
 use Rattle.std.proofs.lemmas.Bool.{cond-true, cond-false, lt-ltb, ltb-true, and_parts}
+use Rattle.std.specs.Borrow.{Bor}
 use Rattle.store.specs.Sets.{pictured, after_copy, copied}
 use Rattle.model.specs.Forming.{Within}
 use Rattle.model.specs.Lists.{has, distinct}
@@ -15,9 +16,12 @@ use Rattle.adl.specs.Reads as read
 use Rattle.adl.specs.Reads.{formula, goal_place, operators_place, effect_place}
 use Rattle.runs.specs.Standing.{FormulaAt}
 use Rattle.runs.specs.Effects.{EffectAt}
+use Rattle.protocol.specs.declared.name.Name.{Name}
+use Rattle.protocol.specs.Names.{name_of}
 use Rattle.protocol.specs.Shown.{shown}
 use Rattle.protocol.specs.Steps.{put_step}
 use Rattle.protocol.specs.Machines.{Performed}
+use Rattle.runs.specs.declared.fitting_name.Fitting.{Fitting}
 use Rattle.runs.specs.Runs.{perform_by_puts}
 use Rattle.protocol.proofs.Images.{had_room}
 use Rattle.adl_theorems.proofs.Standing.{stands, operators_length}
@@ -42,6 +46,20 @@ typed_within t (ty ∷ tys) [] e = tt
 typed_within t (ty ∷ tys) (o ∷ os) e =
     let w = and_parts (has o (members t ty)) (typed t tys os) e in
     (member_below t ty o (has_in o (members t ty) w.0), typed_within t tys os w.1)
+
+-- the effect of an operator stands at the place that the record keeps
+pub operator_effect : (k : Task) (o : ℕ) (h : o < k.table.sizes.operators) → EffectAt (held k) (get_or (held k).operands (places_of k o).start 0) (places_of k o).effect (operator_of (tree_of k) o).effect (operator_begun k o h).0
+operator_effect k o h =
+    let i = (places_of k o).start in
+    let count = get_or (held k).operands i 0 in
+    let r = (operator_begun k o h).1 in
+    record {
+      room = 256;
+      around = outermost count (effect_place (held k) i);
+      reads = ap (λ j. read.effect (held k) 256 (outermost count (effect_place (held k) i)) j) (effect_starts k o h) ∙ r.effect_is;
+      known = refl;
+      few = omega (arith, r.few);
+    }
 
 -- a name that fits a loaded task
 module _ (k : Task) (m : tree.Name) (e : fits (tree_of k) m ≡ true) where
@@ -74,7 +92,7 @@ module _ (k : Task) (m : tree.Name) (e : fits (tree_of k) m ≡ true) where
   count = get_or (held k).operands start 0
 
   -- the operator begins inside the table
-  pub start_inside : start < k.table.sizes.entries
+  start_inside : start < k.table.sizes.entries
   start_inside = (operator_begun k m.operator operator_known).1.inside
 
   -- as many as it has objects
@@ -82,34 +100,42 @@ module _ (k : Task) (m : tree.Name) (e : fits (tree_of k) m ≡ true) where
   count_is = (operator_begun k m.operator operator_known).1.count ∙ as_many_objects (tree_of k) types_of m.objects typed_objects
 
   -- at most four objects
-  pub few_objects : length m.objects ≤ 4
+  few_objects : length m.objects ≤ 4
   few_objects = omega (arith, count_is, (operator_begun k m.operator operator_known).1.few)
 
-  -- at most four parameters
-  pub few_parameters : count ≤ 4
-  few_parameters = (operator_begun k m.operator operator_known).1.few
-
-  -- its precondition stands after the parameters
-  pub precondition_stands : FormulaAt (held k) (length m.objects) (start + 1 + count) (precondition_of (tree_of k) m) (effect_place (held k) start)
+  -- its precondition stands after as many parameters as it has objects
+  pub precondition_stands : FormulaAt (held k) (length m.objects) (start + 1 + length m.objects) (precondition_of (tree_of k) m) (effect_place (held k) start)
   precondition_stands =
+      let at_count : FormulaAt (held k) (length m.objects) (start + 1 + count) (precondition_of (tree_of k) m) (effect_place (held k) start) =
       record {
         room = 256;
         around = outermost count (start + 1 + count);
         reads = (operator_begun k m.operator operator_known).1.precondition;
         known = count_is;
         few = omega (arith, few_objects);
-      }
+      } in
+      subst (λ n. FormulaAt (held k) (length m.objects) (start + 1 + n) (precondition_of (tree_of k) m) (effect_place (held k) start)) count_is at_count
 
   -- its effect stands at the place that the record keeps
   pub effect_stands : EffectAt (held k) (length m.objects) ((places_of k m.operator).effect) (operator_of (tree_of k) m.operator).effect (operator_begun k m.operator operator_known).0
   effect_stands =
-      record {
-        room = 256;
-        around = outermost count (effect_place (held k) start);
-        reads = ap (λ i. read.effect (held k) 256 (outermost count (effect_place (held k) start)) i) (effect_starts k m.operator operator_known) ∙ (operator_begun k m.operator operator_known).1.effect_is;
-        known = count_is;
-        few = omega (arith, few_objects);
-      }
+      subst (λ v. EffectAt (held k) v (places_of k m.operator).effect (operator_of (tree_of k) m.operator).effect (operator_begun k m.operator operator_known).0) count_is
+      (operator_effect k m.operator operator_known)
+
+-- the numbers of a name that fits, and of where its operator begins, are small
+module _ (f : Fitting) where
+  pub operator_small : f.name.operator < 32
+  operator_small = omega (arith, operator_known f.task.now (name_of f.name) f.fits, f.task.now.table.operators)
+
+  pub objects_few : length f.name.objects.now ≤ 4
+  objects_few = few_objects f.task.now (name_of f.name) f.fits
+
+  pub begins_inside : (places_of f.task.now f.name.operator).start < f.task.now.table.sizes.entries
+  begins_inside = start_inside f.task.now (name_of f.name) f.fits
+
+-- what holds of a name that fits holds of the name that was tried
+pub holds_of_name : (f : Fitting) (t : Bor Task) (m : Name) → (f.task ≡ t) × (f.name ≡ m) → (P : tree.Task → tree.Name → Type 0) → P (tree_of f.task.now) (name_of f.name) → P (tree_of t.now) (name_of m)
+holds_of_name f t m e P h = subst (λ (m : Name). P (tree_of t.now) (name_of m)) e.1 (subst (λ (t : Bor Task). P (tree_of t.now) (name_of f.name)) e.0 h)
 
 -- a step that is taken
 pub step_taken : (t : tree.Task) (size n a : ℕ) (s u : State) (im seen : List ℕ) (m : tree.Name) → n < 65535 → a ≡ atoms t → Ok tt ≡ copied size (length im) a → true ≡ fits t m → seen ≡ after_copy size a s im →

@@ -1,9 +1,10 @@
 -- Handing over the literals of an effect, part by part and member by member.
-use Rattle.std.proofs.Common.{◌≡◌, ℕ, zero, suc, ◌+◌, ◌<◌, ◌≤◌, Bool, true, false, cond, List, [], ◌∷◌, ◌++◌, get_or, fold, sym, refl, ap, ◌∙◌, ⊎_elim, add-one, arith}
+use Rattle.std.proofs.Common.{◌≡◌, ℕ, zero, suc, ◌+◌, ◌<◌, ◌≤◌, Bool, true, false, cond, ◌||◌, List, [], ◌∷◌, ◌++◌, get_or, fold, sym, refl, ap, ◌∙◌, ⊎_elim, add-one, arith}
+use Rattle.std.proofs.Math.Bool.{or_assoc}
 use Rattle.std.proofs.lemmas.List.Sums.{fold-append}
 use Rattle.std.proofs.lemmas.List.{append-nil, append_assoc, map-append}
 use Rattle.std.proofs.lemmas.Bool.{cases_lt}
-use Rattle.model.specs.Lists.{below, keep, gather}
+use Rattle.model.specs.Lists.{below, keep, gather, any_of}
 use Rattle.model.specs.Meaning.{State, Literal, Part, value, bind, ground, parts, all_parts}
 use Rattle.model.specs.Trees.{Task, Formula, outcomes_of, all_outcomes, Consequent, Effect, for_each, when, in_set, members}
 use Rattle.adl.specs.Tables.{Table}
@@ -23,13 +24,17 @@ pub gather_gather : {A B C : Type 0} (F : B → List C) (G : A → List B) (xs :
 gather_gather F G [] = refl
 gather_gather F G (x ∷ xs) = gather_append F (G x) (gather G xs) ∙ ap (λ zs. gather F (G x) ++ zs) (gather_gather F G xs)
 
-cond_append : {A : Type 0} (b : Bool) (x : A) (xs ys : List A) → cond b (x ∷ (xs ++ ys)) (xs ++ ys) ≡ cond b (x ∷ xs) xs ++ ys
+pub cond_append : {A : Type 0} (b : Bool) (x : A) (xs ys : List A) → cond b (x ∷ (xs ++ ys)) (xs ++ ys) ≡ cond b (x ∷ xs) xs ++ ys
 cond_append true x xs ys = refl
 cond_append false x xs ys = refl
 
-keep_append : {A : Type 0} (p : A → Bool) (xs ys : List A) → keep p (xs ++ ys) ≡ keep p xs ++ keep p ys
+pub keep_append : {A : Type 0} (p : A → Bool) (xs ys : List A) → keep p (xs ++ ys) ≡ keep p xs ++ keep p ys
 keep_append p [] ys = refl
 keep_append p (x ∷ xs) ys = ap (λ zs. cond (p x) (x ∷ zs) zs) (keep_append p xs ys) ∙ cond_append (p x) x (keep p xs) (keep p ys)
+
+pub any_append : {A : Type 0} (p : A → Bool) (xs ys : List A) → any_of p (xs ++ ys) ≡ (any_of p xs || any_of p ys)
+any_append p [] ys = refl
+any_append p (x ∷ xs) ys = ap (λ b. p x || b) (any_append p xs ys) ∙ sym (or_assoc (p x) (any_of p xs) (any_of p ys))
 
 gather_one : {B : Type 0} (b : Bool) (F : ℕ → List B) (i : ℕ) → gather F (cond b (i ∷ []) []) ≡ cond b (F i) []
 gather_one true F i = append-nil (F i)
@@ -42,13 +47,13 @@ pub none_kept : {B : Type 0} (p : ℕ → Bool) (F : ℕ → List B) → gather 
 unfolding below
 none_kept p F = refl
 
-suc_kept : {B : Type 0} (p : ℕ → Bool) (F : ℕ → List B) (i : ℕ) → gather F (keep p (below (suc i))) ≡ gather F (keep p (below i)) ++ cond (p i) (F i) []
+pub suc_kept : {B : Type 0} (p : ℕ → Bool) (F : ℕ → List B) (i : ℕ) → gather F (keep p (below (suc i))) ≡ gather F (keep p (below i)) ++ cond (p i) (F i) []
 unfolding below
 suc_kept p F i =
     ap (gather F) (keep_append p (below i) (i ∷ [])) ∙ gather_append F (keep p (below i)) (keep p (i ∷ []))
     ∙ ap (λ zs. gather F (keep p (below i)) ++ zs) (gather_one (p i) F i)
 
-more_kept : {B : Type 0} (p : ℕ → Bool) (F : ℕ → List B) (i : ℕ) → gather F (keep p (below (i + 1))) ≡ gather F (keep p (below i)) ++ cond (p i) (F i) []
+pub more_kept : {B : Type 0} (p : ℕ → Bool) (F : ℕ → List B) (i : ℕ) → gather F (keep p (below (i + 1))) ≡ gather F (keep p (below i)) ++ cond (p i) (F i) []
 more_kept p F i = ap (λ n. gather F (keep p (below n))) (add-one i) ∙ suc_kept p F i
 
 -- one turn of the loop over the members, at a member and at another object

@@ -4,3 +4,9 @@ pub mod Shown
 pub mod Effects
 pub mod Windows
 pub mod Runs
+pub mod Settled
+pub mod Closing
+pub mod Left
+pub mod Clauses
+pub mod Chosen
+pub mod Touching

@@ -1,14 +1,14 @@
 // The goal and the operators of a loaded task, by the places that the record keeps.
-ghost use Rattle.std.specs.Prelude.{◌≡◌, ℕ, ◌<◌, ◌≤◌, true, [], if◌then◌else◌};
-ghost use Rattle.model.specs.Meaning.{value, fits, precondition_of, effect_of, literals_where};
+ghost use Rattle.std.specs.Prelude.{◌≡◌, ℕ, ◌<◌, ◌≤◌, [], if◌then◌else◌};
+ghost use Rattle.model.specs.Meaning.{value, precondition_of, effect_of, literals_where};
 ghost use Rattle.protocol.specs.Names.{name_of};
 ghost use Rattle.protocol.specs.Shown.{shown};
 ghost use Rattle.adl.specs.Held.{tree_of};
 ghost use Rattle.protocol.specs.Steps.{put_step};
 
+use crate::fitting_name::Fitting;
 use crate::sheet::{Scene, Sheet};
 use adl::Task;
-use protocol::Name;
 use store::Store;
 
 // The value of the goal in the image.
@@ -21,23 +21,20 @@ pub(crate) fn judge_goal(task: &Task, image: &[u8]) -> bool
     value
 }
 
-// Judges the precondition of the name in the image and, if it is true, takes the step; tells whether, since the caller alone knows the place that
-// a refusal names.
-pub(crate) fn perform_operator<S: Store>(
-    task: &Task,
-    image: &[u8],
-    name: Name,
-    store: &mut S,
-) -> bool
-    requires { fits (tree_of task.now) (name_of name) ≡ true }
-    ensures size { S.extent store.new ≡ S.extent store.old }
-    ensures judged { result ≡ value (tree_of task.now) (shown image.now) (name_of name.entry).objects (precondition_of (tree_of task.now) (name_of name.entry)) }
-    ensures set { S.facts store.new ≡ (if result then put_step (S.extent store.old) (literals_where (value (tree_of task.now) (shown image.now)) (effect_of (tree_of task.now) (name_of name.entry))) (S.facts store.old) else S.facts store.old) }
-{
-    let start = task.operators[name.operator as usize].start;
-    let effect = task.operators[name.operator as usize].effect;
-    let precondition = start + 1 + task.table.entries.operands[start] as usize;
-    let sheet = Sheet::of(task, name.objects);
-    let mut scene = Scene { sheet, image };
-    scene.attempt(precondition, effect, store)
+impl Fitting<'_, '_, '_> {
+    // Judges the precondition in the image and, if it is true, takes the step; tells whether, since the caller alone knows the place that a refusal
+    // names.
+    #[tactic(auto, using(crate::proofs::Turns::objects_few, crate::proofs::Turns::begins_inside))]
+    pub(crate) fn perform<S: Store>(&self, image: &[u8], store: &mut S) -> bool
+        ensures size { S.extent store.new ≡ S.extent store.old }
+        ensures judged { result ≡ value (tree_of self.now.task.now) (shown image.now) (name_of self.now.name).objects (precondition_of (tree_of self.now.task.now) (name_of self.now.name)) }
+        ensures set { S.facts store.new ≡ (if result then put_step (S.extent store.old) (literals_where (value (tree_of self.now.task.now) (shown image.now)) (effect_of (tree_of self.now.task.now) (name_of self.now.name))) (S.facts store.old) else S.facts store.old) }
+    {
+        let Fitting { task, name } = *self;
+        let operator = task.operators[name.operator as usize];
+        let precondition = operator.start + 1 + name.objects.len();
+        let sheet = Sheet::of(task, name.objects);
+        let mut scene = Scene { sheet, image };
+        scene.attempt(precondition, operator.effect, store)
+    }
 }

@@ -18,7 +18,7 @@ use table::Kind;
 
 impl Sheet<'_, '_> {
     // The literal of the atom at place `at`, plain or under NOT, and the place after it.
-    fn change(&self, at: usize) -> (Literal, usize)
+    pub(crate) fn change(&self, at: usize) -> (Literal, usize)
         requires { (c : Change) × (j : ℕ) × ChangeIn self.now at c j }
         ensures { (c : Change) (j : ℕ) → ChangeIn self.now at c j →
             (meant result.0 ≡ ground (tree_of self.now.task.now) (bound self.now) c) × (result.1 ≡ j) }

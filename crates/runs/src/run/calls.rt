@@ -7,8 +7,8 @@ ghost use Rattle.protocol.specs.TaskCalls.{task_begin, task_holds, task_goal, ta
 
 use super::TaskRun;
 use crate::facts::put_facts;
-use crate::fitting::fits;
-use crate::goal::{judge_goal, perform_operator};
+use crate::fitting_name::Fitting;
+use crate::goal::judge_goal;
 use adl::Task;
 use fault::{Cause, Fault, Layer};
 use protocol::{Name, Run};
@@ -53,11 +53,11 @@ impl<'t, 'a> Run for TaskRun<'t, 'a> {
         }
         let task = self.task;
         room_for(store, image, task.atoms)?;
-        if !fits(task, name) {
+        let Some(fitting) = Fitting::of(task, name) else {
             return Err(Fault::new(Cause::NameDoesNotFit, Layer::Run, 0));
-        }
+        };
         copy(store, image, task.atoms)?;
-        if !perform_operator(task, image, name, store) {
+        if !fitting.perform(image, store) {
             return Err(Fault::new(Cause::NotApplicable, Layer::Run, steps as u64));
         }
         self.steps = steps + 1;
