@@ -1,0 +1,47 @@
+-- A round by which every atom becomes the same forbids the same literals.
+use Rattle.std.proofs.Common.{◌≡◌, ℕ, Bool, true, false, not, ◌||◌, List, [], ◌∷◌, sym, refl, ap, ap₂, ◌∙◌}
+use Rattle.model.specs.Trees.{Task, Name}
+use Rattle.model.specs.Forming.{WellFormed}
+use Rattle.model.specs.Meaning.{fits, Literal}
+use Rattle.model.specs.Settling.{Verdict, always, unsettled, Round, settle, is, reach, round_one, round_two}
+use Rattle.model.proofs.Values.{clash}
+use Rattle.book_of_task.specs.Becoming.{SameBecoming}
+use Rattle.book_of_task.specs.Clashes.{is_always, some_clashes}
+use Rattle.book_of_task.proofs.Becoming.{what_atoms_become}
+use Rattle.book_of_task.proofs.Clashes.{no_literal_clashes}
+use Rattle.fault.specs.Faults.{refusal}
+use Rattle.fault.specs.declared.Layer.TheVariants.{Book}
+use Rattle.runs.specs.Clauses.{Explains, fault_of}
+use Rattle.runs.specs.declared.draft.Stop.{Stop}
+use Rattle.runs.specs.declared.draft.Stop.TheVariants.{NoMemory, Clash}
+use Rattle.instantiate.specs.Refusals.{no_memory}
+
+-- What an atom becomes tells whether it is always so.
+
+always_told : (b : Bool) (v : Verdict) (j : ℕ) → is_always b v ≡ is b (settle v j)
+always_told b (always c) j = refl
+always_told b unsettled j = refl
+
+alike : (r r' : Round) → SameBecoming r r' → (ls : List Literal) → some_clashes r ls ≡ some_clashes r' ls
+alike r r' same [] = refl
+alike r r' same (l ∷ ls) =
+    let k = l.atom in
+    ap₂ (λ (a b : Bool). a || b)
+    (always_told (not l.adds) (r.verdict k) (r.fact_of k) ∙ ap (is (not l.adds)) (same k) ∙ sym (always_told (not l.adds) (r'.verdict k) (r'.fact_of k)))
+    (alike r r' same ls)
+
+-- only want of memory stops the writing where no literal clashes
+stopped : (b : Bool) (s : Stop) → b ≡ false → Explains b s → fault_of s ≡ no_memory
+stopped b NoMemory e x = refl
+stopped b (Clash p) e x = clash (sym e ∙ x)
+
+module _ (t : Task) (formed : WellFormed t) (r : Round) (m : Name) (fit : fits t m ≡ true) where
+  none_in : (r' : Round) → SameBecoming r r' → some_clashes r' (reach t r' m) ≡ false → some_clashes r (reach t r m) ≡ false
+  none_in r' same none =
+      alike r r' same (reach t r m) ∙ ap (some_clashes r') ((what_atoms_become t r r' same).reach m) ∙ none
+
+  pub stopped_in_one : SameBecoming r (round_one t) → (s : Stop) → Explains (some_clashes r (reach t r m)) s → fault_of s ≡ no_memory
+  stopped_in_one same s = stopped (some_clashes r (reach t r m)) s (none_in (round_one t) same (no_literal_clashes t formed m fit).one)
+
+  pub stopped_in_two : SameBecoming r (round_two t) → (s : Stop) → Explains (some_clashes r (reach t r m)) s → fault_of s ≡ no_memory
+  stopped_in_two same s = stopped (some_clashes r (reach t r m)) s (none_in (round_two t) same (no_literal_clashes t formed m fit).two)

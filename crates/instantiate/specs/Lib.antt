@@ -1,0 +1,7 @@
+pub mod Listing
+pub mod Places
+pub mod Outcome
+pub mod Growing
+pub mod Verdicts
+pub mod Refusals
+pub mod Acts
