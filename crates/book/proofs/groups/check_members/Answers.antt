@@ -1,6 +1,6 @@
 use Rattle.std.proofs.Common.{◌+◌, ◌-◌, Err, sym, ap, ◌∙◌, arith}
 use Rattle.fault.specs.declared.Layer.TheVariants as layer
-use Rattle.table.proofs.Answering.{series_refused, series_turn}
+use Rattle.table.proofs.Answering.{series_refused, series_turn, series_over}
 use Rattle.book.specs.Groups.{member, after_member}
 use Rattle.table.specs.Entries.{coded}
 use Rattle.book.specs.Views.{table}
@@ -35,4 +35,9 @@ loop-preserved c =
     let e = coded c.in_ok-atom.field-0 in
     series_turn layer.Book (member t c.args.place c.args.others.atoms.now) after_member c.args.count c.loop.counter c.loop.low c.loop.at e (c.loop.at + 1) (omega arith)
     (member_goes t c.args.place c.args.others.atoms.now c.loop.low c.loop.at e c.in_ok-atom.ensures.same (omega arith) (has_by c.args.others.atoms.now e.operand c.place_of.result c.place_of.ensures ∙ sym c.is_some.ensures ∙ c.if-is_some.false))
+    ∙ c.loop.invariant
+
+pub returns : goal.returns
+returns c =
+    sym (series_over layer.Book (member (table c.args.table.now) c.args.place c.args.others.atoms.now) after_member (c.args.count - c.loop.counter) c.loop.low c.loop.at (omega arith))
     ∙ c.loop.invariant

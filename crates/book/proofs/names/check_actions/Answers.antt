@@ -1,6 +1,8 @@
 use Rattle.table.proofs.Lengths.{operands_long}
 use Rattle.std.proofs.Common.{◌+◌, ◌-◌, ◌<◌, length, sym, ap, ◌∙◌, arith}
+use Rattle.fault.specs.declared.Layer.TheVariants as layer
 use Rattle.table.specs.Reading.{series}
+use Rattle.table.proofs.Answering.{series_over}
 use Rattle.book.specs.Reads.{action, after_action}
 use Rattle.book.specs.Named.{name_in}
 use Rattle.book.specs.Views.{table, answer}
@@ -45,4 +47,11 @@ loop-preserved c =
     let l : i < length t.operands = omega (arith, f.0, f.1, (operands_long c.args.table.now.entries c.args.table.now.whole)) in
     ap (λ x. answer (series (action t) after_action (t.actions - (c.loop.counter + 1)) x e)) (sym (listed_in t.operands i j f.0 l))
     ∙ action_turn t t.actions c.loop.counter b i (omega arith) (name_in t.operands i j) j c.in_ok-named.ensures.text c.in_ok-judged.judged c.in_ok-judged.ensures e c.in_ok-at.ensures
+    ∙ c.loop.invariant
+
+pub returns : goal.returns
+returns c =
+    let t = table c.args.table.now in
+    let b = c.loop.before.now in
+    sym (series_over layer.Book (action t) after_action (t.actions - c.loop.counter) b c.loop.at (omega arith))
     ∙ c.loop.invariant
