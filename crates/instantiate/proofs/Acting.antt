@@ -52,9 +52,9 @@ module _ (t : Task) (r : Round) (same : SameBecoming r (round_two t)) (m : Name)
     one = ap length (kept true is_written)
 
     -- the draft holds it
-    pub drafted : (before after : Draft) → before.entries.items ≡ [] → Appends (if written then write_action (action t r m) else []) (reach t r m) before after →
+    pub drafted : (before after : Draft) → Appends (if written then write_action (action t r m) else []) (reach t r m) before after → before.entries.items ≡ [] →
         (ks : List Head) → ks ≡ after.entries.items → map coded ks ≡ gather write_action (actions_by t m)
-    drafted before after empty wrote ks ks_are =
+    drafted before after wrote empty ks ks_are =
         ap (map coded) ks_are ∙ wrote.entries
         ∙ ap₂ (λ (z : List Head) (b : Bool). map coded z ++ (if b then write_action (action t r m) else [])) empty is_written
         ∙ ap write_action action_is ∙ sym (append-nil (write_action (action t (round_two t) m)))

@@ -1,7 +1,7 @@
 -- The literals of an operator's actions, one after the other, and those of all operators.
-use Rattle.std.proofs.Common.{◌≡◌, ℕ, zero, suc, ◌+◌, ◌<◌, ◌≤◌, ◌⊎◌, List, [], ◌∷◌, ◌++◌, map, length, get_or, take, drop, sym, refl, ap, ◌∙◌, subst, inl, inr, ⊎_elim, arith, add-one}
+use Rattle.std.proofs.Common.{◌≡◌, ℕ, zero, suc, ◌+◌, ◌<◌, ◌≤◌, ◌⊎◌, List, [], ◌∷◌, ◌++◌, map, length, get_or, take, drop, sym, ap, ap₂, ◌∙◌, subst, inl, inr, ⊎_elim, arith, add-one}
 use Rattle.std.proofs.lemmas.Bool.{cases_eq}
-use Rattle.std.proofs.lemmas.List.{append_assoc}
+use Rattle.std.proofs.lemmas.List.{append-nil, append_assoc}
 use Rattle.table.specs.Reading.{Entry}
 use Rattle.rising.specs.declared.literal.Literal as code
 use Rattle.fault.specs.declared.Fault.{Fault}
@@ -22,62 +22,65 @@ use Rattle.instantiate.specs.Refusals.{no_memory, TooShort}
 use Rattle.instantiate.proofs.Different.{different_grows}
 use Rattle.instantiate.proofs.Naming.{front, gather_all, gather_next, gather_below}
 
--- a turn of the loop over the lists of objects: the draft holds the literals of the next action
-module _ (t : Task) (o n : ℕ) (xs : List (List ℕ)) (lists : map (chosen n) xs ≡ choices t o) (i : ℕ) (d : List ℕ) (h : i < length xs) (r : Round) (same : SameBecoming r (round_one t))
-    (u : Task) (m : Name) (task : u ≡ t) (name : m ≡ named o (chosen n (get_or xs i d))) (before after : Draft) (es : List Entry) (empty : before.literals.items ≡ [])
-    (wrote : Appends es (reach u r m) before after) (ks : List code.Literal) (ks_are : ks ≡ after.literals.items) (ls : List Literal) where
-  -- what they are
-  next_literals : map meant ks ≡ reach t (round_one t) (named o (chosen n (get_or xs i d)))
-  next_literals =
-      ap (map meant) ks_are ∙ wrote.literals ∙ ap (λ z. map meant z ++ reach u r m) empty
-      ∙ ap (λ z. reach z r m) task ∙ (what_atoms_become t r (round_one t) same).reach m ∙ ap (reach t (round_one t)) name
+-- the draft holds the literals of an action
+pub drafted : (t : Task) (r : Round) → SameBecoming r (round_one t) → (m : Name) (before after : Draft) (es : List Entry) → Appends es (reach t r m) before after → before.literals.items ≡ [] →
+    (ks : List code.Literal) → ks ≡ after.literals.items → map meant ks ≡ reach t (round_one t) m
+drafted t r same m before after es wrote empty ks ks_are =
+    ap (map meant) ks_are ∙ wrote.literals ∙ ap (λ z. map meant z ++ reach t r m) empty ∙ (what_atoms_become t r (round_one t) same).reach m
 
-  pub one_action_more : (ls ++ gather (reach t (round_one t)) (front o n i xs)) ++ map meant ks ≡ ls ++ gather (reach t (round_one t)) (front o n (i + 1) xs)
-  one_action_more =
-      ap (λ z. (ls ++ gather (reach t (round_one t)) (front o n i xs)) ++ z) next_literals
-      ∙ append_assoc ls (gather (reach t (round_one t)) (front o n i xs)) (reach t (round_one t) (named o (chosen n (get_or xs i d))))
-      ∙ ap (λ z. ls ++ z) (sym (gather_next (reach t (round_one t)) o n i xs d h))
-
-  -- too many until here are too many in all
-  pub too_many : (room : ℕ) → room < different ((ls ++ gather (reach t (round_one t)) (front o n i xs)) ++ map meant ks) → room < different (ls ++ literals_of t o)
-  too_many room k =
-      let F = reach t (round_one t) in
-      let rest = gather F (map (λ os. named o (chosen n os)) (drop (i + 1) xs)) in
-      let g = different_grows (ls ++ gather F (front o n (i + 1) xs)) rest in
-      let e = ap different one_action_more in
-      let a = ap different (append_assoc ls (gather F (front o n (i + 1) xs)) rest ∙ ap (λ z. ls ++ z) (sym (gather_all t o n xs lists F (i + 1)))) in
-      omega arith
-
--- All operators.
+-- the literals of one name more
+pub one_name_more : (t : Task) (o n : ℕ) (xs : List (List ℕ)) (i : ℕ) (d : List ℕ) → i < length xs → (u : Task) (m : Name) → u ≡ t → m ≡ named o (chosen n (get_or xs i d)) → (ls : List Literal) →
+    (ls ++ gather (reach t (round_one t)) (front o n i xs)) ++ reach u (round_one u) m ≡ ls ++ gather (reach t (round_one t)) (front o n (i + 1) xs)
+one_name_more t o n xs i d h u m task name ls =
+    let F = reach t (round_one t) in
+    append_assoc ls (gather F (front o n i xs)) (reach u (round_one u) m)
+    ∙ ap (λ z. ls ++ z) (ap₂ (λ (z : Task) (k : Name). gather F (front o n i xs) ++ reach z (round_one z) k) task name ∙ sym (gather_next F o n i xs d h))
 
 pub literals_by_operator : (t : Task) → literals_one t ≡ gather (literals_of t) (below (length t.operators))
 literals_by_operator t = gather_gather (reach t (round_one t)) (names_of t) (below (length t.operators))
 
-different_below : (f : ℕ → List Literal) (k n : ℕ) → k ≤ n → different (gather f (below k)) ≤ different (gather f (below n))
-different_below f k zero h = let e : k ≡ zero = omega arith in subst (λ z. different (gather f (below z)) ≤ different (gather f (below zero))) (sym e) (omega arith)
-different_below f k (suc n) h = ⊎_elim
-    (λ e. subst (λ z. different (gather f (below z)) ≤ different (gather f (below (suc n)))) (sym e) (omega arith))
-    (λ ne.
-    let here = different_below f k n (omega arith) in
-    let more = different_grows (gather f (below n)) (f n) in
-    let e = ap different (gather_below f n) in
-    let one : n + 1 ≡ suc n = omega arith in
-    subst (λ z. different (gather f (below k)) ≤ different (gather f (below z))) one (omega arith))
-    (cases_eq k (suc n))
+-- Refusals.
 
--- a refusal by one operator is one by all
-refused : (t : Task) (k : ℕ) (room : ℕ) (f : Fault) → k < length t.operators →
-    (f ≡ no_memory) ⊎ TooShort room (gather (literals_of t) (below k) ++ literals_of t k) f → (f ≡ no_memory) ⊎ TooShort room (literals_one t) f
-refused t k room f h (inl x) = inl x
-refused t k room f h (inr x) =
-    let w : k + 1 ≤ length t.operators = omega arith in
-    let d = different_below (literals_of t) (k + 1) (length t.operators) w in
-    let l = ap different (gather_below (literals_of t) k) in
-    let a = ap different (literals_by_operator t) in
+-- a list that is too short for some literals is too short for more, which begin with them
+too_short : (room : ℕ) (f : Fault) (ls more all : List Literal) → ls ++ more ≡ all → (f ≡ no_memory) ⊎ TooShort room ls f → (f ≡ no_memory) ⊎ TooShort room all f
+too_short room f ls more all e (inl x) = inl x
+too_short room f ls more all e (inr x) =
+    let g = different_grows ls more in
+    let a = ap different e in
     inr (x.0, omega (arith, x.1))
 
-pub refused_by_all : (t : Task) (k : ℕ) (room room' : ℕ) (f g : Fault) → k < length t.operators → room ≡ room' → g ≡ f →
+-- it is passed on
+passed_on : (room room' : ℕ) (f g : Fault) (ls : List Literal) → room ≡ room' → g ≡ f → (f ≡ no_memory) ⊎ TooShort room ls f → (g ≡ no_memory) ⊎ TooShort room' ls g
+passed_on room room' f g ls same e x =
+    subst (λ y. (y ≡ no_memory) ⊎ TooShort room' ls y) (sym e) (subst (λ z. (f ≡ no_memory) ⊎ TooShort z ls f) same x)
+
+-- a refusal of one action's literals is one of its operator's
+pub refused_by_operator : (t : Task) (o n : ℕ) (xs : List (List ℕ)) → map (chosen n) xs ≡ choices t o → (i : ℕ) (ls now : List Literal) →
+    now ≡ ls ++ gather (reach t (round_one t)) (front o n (i + 1) xs) → (room room' : ℕ) (f g : Fault) → room ≡ room' → g ≡ f →
+    (f ≡ no_memory) ⊎ TooShort room now f → (g ≡ no_memory) ⊎ TooShort room' (ls ++ literals_of t o) g
+refused_by_operator t o n xs lists i ls now here room room' f g same e x =
+    let F = reach t (round_one t) in
+    let rest = gather F (map (λ os. named o (chosen n os)) (drop (i + 1) xs)) in
+    passed_on room room' f g (ls ++ literals_of t o) same e
+    (too_short room f now rest (ls ++ literals_of t o)
+    (ap (λ z. z ++ rest) here ∙ append_assoc ls (gather F (front o n (i + 1) xs)) rest ∙ ap (λ z. ls ++ z) (sym (gather_all t o n xs lists F (i + 1)))) x)
+
+-- what is gathered of the numbers below n begins with what is gathered of those below k
+gather_rest : (F : ℕ → List Literal) (k n : ℕ) → k ≤ n → (rest : List Literal) × (gather F (below k) ++ rest ≡ gather F (below n))
+gather_rest F k zero h = let e : k ≡ zero = omega arith in ([], append-nil (gather F (below k)) ∙ ap (λ z. gather F (below z)) e)
+gather_rest F k (suc n) h = ⊎_elim
+    (λ e. ([], append-nil (gather F (below k)) ∙ ap (λ z. gather F (below z)) e))
+    (λ ne.
+    let w = gather_rest F k n (omega arith) in
+    let one : n + 1 ≡ suc n = omega arith in
+    (w.0 ++ F n, sym (append_assoc (gather F (below k)) w.0 (F n)) ∙ ap (λ z. z ++ F n) w.1 ∙ sym (gather_below F n) ∙ ap (λ z. gather F (below z)) one))
+    (cases_eq k (suc n))
+
+-- a refusal of one operator's literals is one of all
+pub refused_by_all : (t : Task) (k : ℕ) → k < length t.operators → (room room' : ℕ) (f g : Fault) → room ≡ room' → g ≡ f →
     (f ≡ no_memory) ⊎ TooShort room (gather (literals_of t) (below k) ++ literals_of t k) f → (g ≡ no_memory) ⊎ TooShort room' (literals_one t) g
-refused_by_all t k room room' f g h same e x =
-    subst (λ y. (y ≡ no_memory) ⊎ TooShort room' (literals_one t) y) (sym e)
-    (subst (λ z. (f ≡ no_memory) ⊎ TooShort z (literals_one t) f) same (refused t k room f h x))
+refused_by_all t k h room room' f g same e x =
+    let L = literals_of t in
+    let w = gather_rest L (k + 1) (length t.operators) (omega arith) in
+    passed_on room room' f g (literals_one t) same e
+    (too_short room f (gather L (below k) ++ L k) w.0 (literals_one t) (ap (λ z. z ++ w.0) (sym (gather_below L k)) ∙ w.1 ∙ sym (literals_by_operator t)) x)

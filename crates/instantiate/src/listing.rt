@@ -2,7 +2,8 @@
 ghost use Rattle.std.specs.Prelude.{◌≡◌, ◌++◌, ◌<◌, ◌⊎◌, List, [], map, length, MatchResult};
 ghost use Rattle.adl.specs.Held.{tree_of};
 ghost use Rattle.model.specs.Meaning as model;
-ghost use Rattle.model.specs.Settling.{round_one};
+ghost use Rattle.model.specs.Settling.{reach, round_one};
+ghost use Rattle.protocol.specs.Names.{name_of};
 ghost use Rattle.rising.specs.Items.{items, room};
 ghost use Rattle.runs.specs.Effects.{meant};
 ghost use Rattle.runs.specs.Settled.{round_of};
@@ -15,7 +16,7 @@ use crate::work::{Work, fitting};
 use adl::Task;
 use fault::{Cause, Fault, Layer};
 use rising::{Full, Literal, Rising};
-use runs::{Verdict, list_choices};
+use runs::{Draft, Fitting, Verdict, list_choices};
 
 // Puts the literals into the list.
 fn note_all(literals: &[Literal], listed: &mut Rising<Literal>) -> Result<(), Full>
@@ -25,6 +26,28 @@ fn note_all(literals: &[Literal], listed: &mut Rising<Literal>) -> Result<(), Fu
 {
     for literal in literals {
         listed.insert(*literal)?;
+    }
+    Ok(())
+}
+
+// Lists the literals that an action can bring about in round one.
+fn list_one(
+    fitting: &Fitting,
+    verdicts: &[Verdict],
+    draft: &mut Draft,
+    listed: &mut Rising<Literal>,
+) -> Result<(), Fault>
+    requires { SameBecoming (round_of verdicts.now) (round_one (tree_of fitting.now.task.now)) }
+    ensures places { room listed.new ≡ room listed.old }
+    ensures held { (ls : List model.Literal) → Lists (items listed.old) ls → MatchResult result
+        (λ _. Lists (items listed.new) (ls ++ reach (tree_of fitting.now.task.now) (round_one (tree_of fitting.now.task.now)) (name_of fitting.now.name)))
+        (λ fault. (fault ≡ no_memory) ⊎
+        TooShort (room listed.old) (ls ++ reach (tree_of fitting.now.task.now) (round_one (tree_of fitting.now.task.now)) (name_of fitting.now.name)) fault) }
+{
+    draft.clear();
+    fitting.write_action(verdicts, draft)?;
+    if note_all(&draft.literals, listed).is_err() {
+        return Err(Fault::new(Cause::ListTooShort, Layer::Book, listed.places() as u64));
     }
     Ok(())
 }
@@ -47,11 +70,7 @@ fn list_operator(
     let count = list_choices(task, operator, &mut work.choices)?;
     for objects in &work.choices {
         let fitting = fitting(task, operator, &objects[..count]);
-        work.draft.clear();
-        fitting.write_action(verdicts, &mut work.draft)?;
-        if note_all(&work.draft.literals, listed).is_err() {
-            return Err(Fault::new(Cause::ListTooShort, Layer::Book, listed.places() as u64));
-        }
+        list_one(&fitting, verdicts, &mut work.draft, listed)?;
     }
     Ok(())
 }

@@ -13,12 +13,6 @@ loop-operator-init c =
     let t = tree_of c.args.task.now in
     (refl, ap length (sym (none_acted t)), λ es h. subst (λ z. Grown z c.args.book.now) (sym (ap (λ z. es ++ gather write_action z) (none_acted t) ∙ append-nil es)) h)
 
-pub returns-in_err-more-clause-most : goal.returns-in_err-more-clause-most
-returns-in_err-more-clause-most c = c.in_err-more.ensures.most ∙ c.loop-operator.invariant.0
-
-pub returns-in_err-actions-clause-most : goal.returns-in_err-actions-clause-most
-returns-in_err-actions-clause-most c = c.in_ok-more.ensures.most ∙ c.loop-operator.invariant.0
-
 pub loop-operator-preserved : goal.loop-operator-preserved
 loop-operator-preserved c =
     let t = tree_of c.args.task.now in
@@ -27,9 +21,6 @@ loop-operator-preserved c =
       c.in_ok-actions.ensures ∙ ap₂ (λ k n. k + n) c.loop-operator.invariant.1 c.in_ok-more.ensures.count ∙ counted _ _ _ (one_operator_more t o),
       λ es h. subst (λ z. Grown z c.write_operator.new.book) (appended es _ _ _ (one_operator_more t o)) (c.in_ok-more.ensures.grown _ (c.loop-operator.invariant.2 es h)),
     )
-
-pub returns-clause-most : goal.returns-clause-most
-returns-clause-most c = c.loop-operator.invariant.0
 
 pub returns-clause-count : goal.returns-clause-count
 returns-clause-count c =

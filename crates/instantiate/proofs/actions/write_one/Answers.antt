@@ -32,5 +32,5 @@ returns-clause-count c = sym (one _ _ c.requires _ _ c.in_ok-write_action.ensure
 pub returns-clause-grown : goal.returns-clause-grown
 returns-clause-grown c = λ es h.
     subst (λ z. Grown (es ++ z) c.add.new.self)
-    (drafted _ _ c.requires _ _ c.in_ok-write_action.ensures.told c.if-not-branch.false _ _ c.clear.ensures.0 c.in_ok-write_action.ensures.wrote _ c.deref.ensures.value)
+    (drafted _ _ c.requires _ _ c.in_ok-write_action.ensures.told c.if-not-branch.false _ _ c.in_ok-write_action.ensures.wrote (cc) _ c.deref.ensures.value)
     (c.in_ok-add.ensures.grown es h)

@@ -1,20 +1,14 @@
-use Rattle.std.proofs.Common.{◌+◌, ◌++◌, map, length, take, ap, ap₂, sym, refl, subst, ◌∙◌, arith}
-use Rattle.std.proofs.lemmas.List.{append-nil}
+use Rattle.std.proofs.Common.{◌+◌, ◌++◌, map, length, take, ap, ap₂, subst, ◌∙◌, arith}
 use Rattle.adl.specs.Held.{held, tree_of}
 use Rattle.adl_theorems.proofs.Standing.{operators_length}
 use Rattle.model.specs.Lists.{gather}
 use Rattle.model.specs.Settling.{round_two}
 use Rattle.model.specs.Books.{actions}
 use Rattle.book_theorems.specs.Writes.{write_action}
-use Rattle.book_of_task.specs.Becoming.{SameBecoming}
-use Rattle.runs.specs.Settled.{round_of}
 use Rattle.instantiate.specs.Growing.{Grown}
 use Rattle.instantiate.proofs.Naming.{fits_at, front_all}
 use Rattle.instantiate.proofs.Acting.{counted, appended, one_name_more}
 use Rattle.instantiate.proofs.actions.write_operator.Goals as goal
-
-pub loop-objects-init : goal.loop-objects-init
-loop-objects-init c = (refl, refl, λ es h. subst (λ z. Grown z c.args.book.now) (sym (append-nil es)) h)
 
 pub fitting-fitting-requires : goal.fitting-fitting-requires
 fitting-fitting-requires c =
@@ -22,15 +16,6 @@ fitting-fitting-requires c =
     fits_at (tree_of k) c.args.operator c.in_ok-count.count c.deref-objects-items.result.now
     (ap (map (take c.in_ok-count.count)) c.deref-objects-items.ensures.value ∙ c.in_ok-count.ensures.lists c.requires.known)
     c.loop-objects.objects-index _ (omega (arith, operators_length (held k) k.formed, c.requires.known)) c.loop-objects-test.true
-
-pub returns-in_err-more-clause-most : goal.returns-in_err-more-clause-most
-returns-in_err-more-clause-most c = c.in_err-more.ensures.most ∙ c.loop-objects.invariant.0
-
-pub returns-in_err-actions-clause-most : goal.returns-in_err-actions-clause-most
-returns-in_err-actions-clause-most c = c.in_ok-more.ensures.most ∙ c.loop-objects.invariant.0
-
-pub write_one-requires : goal.write_one-requires
-write_one-requires c = subst (λ z. SameBecoming (round_of c.args.verdicts.now) (round_two (tree_of z))) (sym c.fitting-fitting.ensures.0) c.requires.settled
 
 pub loop-objects-preserved : goal.loop-objects-preserved
 loop-objects-preserved c =
@@ -41,9 +26,6 @@ loop-objects-preserved c =
       c.in_ok-actions.ensures ∙ ap₂ (λ k n. k + n) c.loop-objects.invariant.1 c.in_ok-more.ensures.count ∙ counted _ _ _ next,
       λ es h. subst (λ z. Grown z c.write_one.new.book) (appended es _ _ _ next) (c.in_ok-more.ensures.grown _ (c.loop-objects.invariant.2 es h)),
     )
-
-pub returns-clause-most : goal.returns-clause-most
-returns-clause-most c = c.loop-objects.invariant.0
 
 pub returns-clause-count : goal.returns-clause-count
 returns-clause-count c =

@@ -14,14 +14,11 @@ use Rattle.instantiate.proofs.listing.list_literals.Goals as goal
 pub loop-operator-init : goal.loop-operator-init
 loop-operator-init c = (refl, subst (λ z. Lists (items c.args.listed.now) z) (sym (gather_none (literals_of (tree_of c.args.task.now)))) (lists_none _ c.requires.empty))
 
-pub returns-in_err-list_operator-clause-places : goal.returns-in_err-list_operator-clause-places
-returns-in_err-list_operator-clause-places c = c.in_err-list_operator.ensures.places ∙ c.loop-operator.invariant.0
-
 pub returns-in_err-list_operator-clause-held : goal.returns-in_err-list_operator-clause-held
 returns-in_err-list_operator-clause-held c =
     let k = c.args.task.now in
     at_failure _ _ _ c.from_residual.result c.from_residual.ensures.1
-    (λ y e. refused_by_all (tree_of k) c.loop-operator.operator _ _ _ y (omega (arith, operators_length (held k) k.formed)) c.loop-operator.invariant.0 e
+    (λ y e. refused_by_all (tree_of k) c.loop-operator.operator (omega (arith, operators_length (held k) k.formed)) _ _ _ y c.loop-operator.invariant.0 e
     (c.in_err-list_operator.ensures.held _ c.loop-operator.invariant.1))
 
 pub loop-operator-preserved : goal.loop-operator-preserved
@@ -30,9 +27,6 @@ loop-operator-preserved c = (
   subst (λ z. Lists (items c.list_operator.new.listed) z) (sym (gather_below (literals_of (tree_of c.args.task.now)) c.loop-operator.operator))
       (c.in_ok-list_operator.ensures.held _ c.loop-operator.invariant.1),
 )
-
-pub returns-clause-places : goal.returns-clause-places
-returns-clause-places c = c.loop-operator.invariant.0
 
 pub returns-clause-held : goal.returns-clause-held
 returns-clause-held c =

@@ -1,17 +1,11 @@
-use Rattle.std.proofs.Common.{◌++◌, ◌<◌, map, sym, subst, ◌∙◌, arith, refl}
-use Rattle.std.proofs.lemmas.List.{append-nil, take_all}
+use Rattle.std.proofs.Common.{◌++◌, ◌<◌, map, subst, ◌∙◌, arith, refl}
+use Rattle.std.proofs.lemmas.List.{take_all}
 use Rattle.rising.specs.Items.{items, room}
 use Rattle.runs.specs.Effects.{meant}
 use Rattle.instantiate.specs.Listing.{Lists, different}
 use Rattle.instantiate.proofs.Endings.{at_failure}
 use Rattle.instantiate.proofs.Listed.{noted_next, overfull_next}
 use Rattle.instantiate.proofs.listing.note_all.Goals as goal
-
-pub loop-literal-init : goal.loop-literal-init
-loop-literal-init c = (refl, λ ls h. subst (λ z. Lists (items c.args.listed.now) z) (sym (append-nil ls)) h)
-
-pub returns-in_err-insert-clause-places : goal.returns-in_err-insert-clause-places
-returns-in_err-insert-clause-places c = c.in_err-insert.ensures.places ∙ c.loop-literal.invariant.0
 
 pub returns-in_err-insert-clause-held : goal.returns-in_err-insert-clause-held
 returns-in_err-insert-clause-held c = λ ls h. at_failure _ _ _ c.from_residual.result c.from_residual.ensures.1
@@ -23,9 +17,6 @@ loop-literal-preserved c = (
   c.in_ok-insert.ensures.places ∙ c.loop-literal.invariant.0,
   λ ls h. noted_next _ _ (room c.loop-literal.listed) ls c.args.literals.now _ _ _ c.loop-literal-test.true refl (c.loop-literal.invariant.1 ls h) _ c.in_ok-insert.ensures.held,
 )
-
-pub returns-clause-places : goal.returns-clause-places
-returns-clause-places c = c.loop-literal.invariant.0
 
 pub returns-clause-held : goal.returns-clause-held
 returns-clause-held c = λ ls h. subst (λ z. Lists (items c.loop-literal.listed) (ls ++ map meant z)) (take_all c.loop-literal.literal-index c.args.literals.now (omega arith)) (c.loop-literal.invariant.1 ls h)
