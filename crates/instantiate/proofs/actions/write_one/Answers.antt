@@ -1,4 +1,4 @@
-use Rattle.std.proofs.Common.{◌++◌, length, ap, sym, subst, ◌∙◌}
+use Rattle.std.proofs.Common.{rules, ◌++◌, length, ap, sym, subst, ◌∙◌}
 use Rattle.std.proofs.lemmas.List.{append-nil}
 use Rattle.adl.specs.Held.{held, tree_of}
 use Rattle.adl_theorems.proofs.WellFormed.{loaded_tasks_are_well_formed}
@@ -32,5 +32,5 @@ returns-clause-count c = sym (one _ _ c.requires _ _ c.in_ok-write_action.ensure
 pub returns-clause-grown : goal.returns-clause-grown
 returns-clause-grown c = λ es h.
     subst (λ z. Grown (es ++ z) c.add.new.self)
-    (drafted _ _ c.requires _ _ c.in_ok-write_action.ensures.told c.if-not-branch.false _ _ c.in_ok-write_action.ensures.wrote (cc) _ c.deref.ensures.value)
+    (drafted _ _ c.requires _ _ c.in_ok-write_action.ensures.told c.if-not-branch.false _ _ c.in_ok-write_action.ensures.wrote (search rules) _ c.deref.ensures.value)
     (c.in_ok-add.ensures.grown es h)

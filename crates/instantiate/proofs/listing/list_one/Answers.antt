@@ -1,4 +1,4 @@
-use Rattle.std.proofs.Common.{◌++◌, ◌<◌, sym, subst, ◌∙◌, inl, inr}
+use Rattle.std.proofs.Common.{rules, ◌++◌, ◌<◌, sym, subst, ◌∙◌, inl, inr}
 use Rattle.adl.specs.Held.{held, tree_of}
 use Rattle.adl_theorems.proofs.WellFormed.{loaded_tasks_are_well_formed}
 use Rattle.protocol.specs.Names.{name_of}
@@ -19,7 +19,7 @@ pub returns-then-is_err-clause-held : goal.returns-then-is_err-clause-held
 returns-then-is_err-clause-held c = λ ls h. let f = c.args.fitting.now in inr (
   told_short _ _ _ c.new.ensures (c.places.ensures ∙ c.note_all.ensures.places),
   subst (λ z. room c.args.listed.now < different (ls ++ z))
-      (drafted (tree_of f.task.now) _ c.requires (name_of f.name) _ _ _ c.in_ok-write_action.ensures.wrote (cc) _ c.deref.ensures.value)
+      (drafted (tree_of f.task.now) _ c.requires (name_of f.name) _ _ _ c.in_ok-write_action.ensures.wrote (search rules) _ c.deref.ensures.value)
       (if_failed _ _ c.note_all.result (sym c.if-is_err.ensures.value) (c.note_all.ensures.held ls h)),
 )
 
@@ -27,5 +27,5 @@ pub returns-clause-held : goal.returns-clause-held
 returns-clause-held c = λ ls h.
     let f = c.args.fitting.now in
     subst (λ z. Lists (items c.note_all.new.listed) (ls ++ z))
-    (drafted (tree_of f.task.now) _ c.requires (name_of f.name) _ _ _ c.in_ok-write_action.ensures.wrote (cc) _ c.deref.ensures.value)
+    (drafted (tree_of f.task.now) _ c.requires (name_of f.name) _ _ _ c.in_ok-write_action.ensures.wrote (search rules) _ c.deref.ensures.value)
     (if_done _ _ c.note_all.result (sym c.if-is_err.ensures.value) (c.note_all.ensures.held ls h))
