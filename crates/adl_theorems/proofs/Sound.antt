@@ -158,5 +158,5 @@ pub records_within_limits : RecordsHoldTasksWithinLimits
 records_within_limits r =
     let t = r.table in
     task_limited t.sizes t.entries.kinds.now t.entries.operands.now
-        (record { some_object = t.some_object; objects = t.objects; types = t.types; predicates = t.predicates; facts = t.facts; operators = t.operators; entries = t.short })
-        r.formed
+    (record { some_object = t.some_object; objects = t.objects; types = t.types; predicates = t.predicates; facts = t.facts; operators = t.operators; entries = t.short })
+    r.formed

@@ -42,12 +42,7 @@ struct Course<'c> {
 }
 
 // Performs the names round after round on a task or a book; answers how many steps were taken, none where no run begins.
-fn perform_all<R: Run>(
-    subject: R::Of,
-    store: &mut Bits,
-    image: &mut [u8],
-    names: &[Name],
-) -> u32 {
+fn perform_all<R: Run>(subject: R::Of, store: &mut Bits, image: &mut [u8], names: &[Name]) -> u32 {
     let Ok(mut run) = R::begin(subject, store) else {
         return 0;
     };
