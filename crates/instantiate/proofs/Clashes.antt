@@ -9,8 +9,6 @@ use Rattle.book_of_task.specs.Becoming.{SameBecoming}
 use Rattle.book_of_task.specs.Clashes.{is_always, some_clashes}
 use Rattle.book_of_task.proofs.Becoming.{what_atoms_become}
 use Rattle.book_of_task.proofs.Clashes.{no_literal_clashes}
-use Rattle.fault.specs.Faults.{refusal}
-use Rattle.fault.specs.declared.Layer.TheVariants.{Book}
 use Rattle.runs.specs.Clauses.{Explains, fault_of}
 use Rattle.runs.specs.declared.draft.Stop.{Stop}
 use Rattle.runs.specs.declared.draft.Stop.TheVariants.{NoMemory, Clash}

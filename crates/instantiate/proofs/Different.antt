@@ -1,10 +1,9 @@
 -- Lists of literals that grow at the end, and how many different ones they have.
-use Rattle.std.proofs.Common.{◌≡◌, ℕ, suc, ◌<◌, ◌≤◌, Bool, true, false, cond, ◌||◌, eqb, List, [], ◌∷◌, ◌++◌, sym, refl, ap, ap₂, ◌∙◌, subst, arith}
-use Rattle.std.specs.Bool.{Decides, one_answer}
+use Rattle.std.proofs.Common.{◌≡◌, ℕ, suc, ◌≤◌, Bool, true, false, cond, ◌||◌, List, [], ◌∷◌, ◌++◌, sym, refl, ap, ap₂, ◌∙◌, subst, arith}
+use Rattle.std.specs.Bool.{one_answer}
 use Rattle.std.proofs.lemmas.Bool.{eqb-true, eq-eqb, and_parts, and_from}
 use Rattle.std.proofs.lemmas.List.{append-nil, append_assoc}
 use Rattle.model.specs.Meaning.{Literal}
-use Rattle.model.proofs.Values.{clash}
 use Rattle.model.proofs.Numbers.{beq_true, beq_refl}
 use Rattle.runs.proofs.Walks.{any_append}
 use Rattle.instantiate.specs.Listing.{same_literal, is_in, different}

@@ -4,7 +4,7 @@ use Rattle.std.proofs.lemmas.List.{append-nil, map_more, map-append, take_all, t
 use Rattle.model.specs.Lists.{In, below, gather}
 use Rattle.model.specs.Trees.{Task, Name}
 use Rattle.model.specs.Meaning.{fits}
-use Rattle.model.specs.Settling.{choices, named, names}
+use Rattle.model.specs.Settling.{choices, named}
 use Rattle.model.proofs.Members.{in_gather, in_map, in_below, in_fits}
 use Rattle.runs.specs.Chosen.{chosen}
 use Rattle.runs.proofs.Walks.{gather_append}

@@ -1,12 +1,11 @@
 -- What is written of the effect of an action, and the literals that it can bring about.
-use Rattle.std.specs.Prelude.{◌≡◌, ℕ, ◌++◌, Bool, true, false, not, List, [], ◌∷◌, map, length}
-use Rattle.std.specs.Bool.{beq}
+use Rattle.std.specs.Prelude.{◌≡◌, ℕ, ◌++◌, Bool, true, List, map, length}
 use Rattle.table.specs.Entries.{coded}
 use Rattle.table.specs.Reading.{Entry}
-use Rattle.model.specs.Lists.{gather, any_of}
+use Rattle.model.specs.Lists.{gather}
 use Rattle.model.specs.Meaning.{Literal, Part, parts, all_parts, literals_where}
-use Rattle.model.specs.Trees.{Task, Formula, Effect, Consequent, outcomes_of, all_outcomes}
-use Rattle.model.specs.Settling.{Verdict, always, unsettled, Round, possible}
+use Rattle.model.specs.Trees.{Task, Formula, Effect, Consequent}
+use Rattle.model.specs.Settling.{Round, possible}
 use Rattle.model.specs.Books.{on_facts, clauses}
 use Rattle.adl.specs.Held.{held, tree_of}
 use Rattle.adl.specs.Reads.{effects_of}
