@@ -1,7 +1,7 @@
 -- The text of a refusal.
 use Rattle.std.specs.Prelude.{ℕ, List, ◌++◌, codes, decimal}
 use Rattle.fault.specs.declared.Layer.{Layer}
-use Rattle.fault.specs.declared.Layer.TheVariants.{Task, Book, Run, Store}
+use Rattle.fault.specs.declared.Layer.TheVariants.{Task, Book, Run, Store, File}
 use Rattle.fault.specs.declared.Fault.{Fault}
 use Rattle.fault.specs.Faults.{number_of}
 
@@ -11,6 +11,7 @@ layer_text Task = codes "task"
 layer_text Book = codes "book"
 layer_text Run = codes "run"
 layer_text Store = codes "store"
+layer_text File = codes "file"
 
 -- the number of the cause, the layer and the place
 abbrev pub fault_text : Fault → List ℕ

@@ -28,12 +28,18 @@ pub enum Cause {
     TooManyAtoms,
     // atoms or names do not rise, or an atom is listed twice
     NotRising,
+    // the length of the file is not the one that its sizes tell
+    FileLength,
+    // an array that is to hold the task of a file is shorter than its entries
+    PlacesTooShort,
     // the book is longer than an array that is to hold it, or than a book may be
     BookTooLong,
     // the list is shorter than the different literals that it is to hold
     ListTooShort,
     // an effect adds an atom that is always false, or deletes one that is always true
     LiteralClashes,
+    // the output is shorter than the file that it is to hold
+    OutputTooShort,
     // the store is too small
     StoreTooSmall,
     // the image is too short
@@ -59,6 +65,7 @@ pub enum Layer {
     Book,
     Run,
     Store,
+    File,
 }
 
 // A refusal.
@@ -97,9 +104,12 @@ impl From<Cause> for u8 {
             Cause::TooLongOrDeep => 6,
             Cause::TooManyAtoms => 7,
             Cause::NotRising => 8,
+            Cause::FileLength => 9,
+            Cause::PlacesTooShort => 10,
             Cause::BookTooLong => 11,
             Cause::ListTooShort => 12,
             Cause::LiteralClashes => 13,
+            Cause::OutputTooShort => 14,
             Cause::StoreTooSmall => 21,
             Cause::ImageTooShort => 22,
             Cause::NameDoesNotFit => 23,
@@ -122,6 +132,7 @@ impl fmt::Display for Layer {
             Layer::Book => "book",
             Layer::Run => "run",
             Layer::Store => "store",
+            Layer::File => "file",
         })
     }
 }
