@@ -4,7 +4,7 @@ use mathlib.Core.Option as plain
 use Rattle.std.proofs.lemmas.List.{map-append}
 use Rattle.std.proofs.lemmas.Bool.{lt-ltb, le-ltb, eqb-true, cond-true, cond-false, cond_both}
 use Rattle.fault.specs.declared.Cause.{Cause}
-use Rattle.fault.specs.declared.Cause.TheVariants.{SizeOutOfLimits, ArrayTooShort, KindNotPermitted, EntriesMismatch, OperandOutOfRange, TooLongOrDeep, TooManyAtoms, NotRising, StoreTooSmall, ImageTooShort, NameDoesNotFit, NotApplicable, NoSuchAtom, StepLimit, OutsideStore, BookTooLong, ListTooShort, LiteralClashes, NoMemory}
+use Rattle.fault.specs.declared.Cause.TheVariants.{SizeOutOfLimits, ArrayTooShort, KindNotPermitted, EntriesMismatch, OperandOutOfRange, TooLongOrDeep, TooManyAtoms, NotRising, StoreTooSmall, ImageTooShort, NameDoesNotFit, NotApplicable, NoSuchAtom, StepLimit, OutsideStore, FileLength, PlacesTooShort, BookTooLong, ListTooShort, LiteralClashes, OutputTooShort, NoMemory}
 use Rattle.fault.specs.declared.Layer.TheVariants.{Run}
 use Rattle.fault.specs.Faults.{number_of, cause_of, refusal, writing_cause}
 use Rattle.model.specs.Trees.{Task, Name, atoms}
@@ -30,10 +30,16 @@ use Rattle.agreement.proofs.Tied.{answer_as, turn_stands, after_stands, passes, 
 not_23 : (i n : ℕ) (c d : Cause) → (eqb i n ≡ true → eqb (number_of c) 23 ≡ false) → eqb (number_of d) 23 ≡ false → eqb (number_of (cond (eqb i n) c d)) 23 ≡ false
 not_23 i n c d p q = cond_both (eqb i n) c d (λ x. eqb (number_of x) 23 ≡ false) p (λ _. q)
 
--- nor has a cause that only writing a book has
+-- nor has a cause that only writing a book or its file has
 writing_not_23 : (i : ℕ) → eqb (number_of (writing_cause i)) 23 ≡ false
 unfolding writing_cause
-writing_not_23 i = not_23 i 11 BookTooLong _ (λ _. refl) (not_23 i 12 ListTooShort _ (λ _. refl) (not_23 i 13 LiteralClashes NoMemory (λ _. refl) refl))
+writing_not_23 i =
+    not_23 i 9 FileLength _ (λ _. refl)
+    (not_23 i 10 PlacesTooShort _ (λ _. refl)
+    (not_23 i 11 BookTooLong _ (λ _. refl)
+    (not_23 i 12 ListTooShort _ (λ _. refl)
+    (not_23 i 13 LiteralClashes _ (λ _. refl)
+    (not_23 i 14 OutputTooShort NoMemory (λ _. refl) refl)))))
 
 -- no other number's cause has the number 23
 cause_23 : (i : ℕ) → eqb (number_of (cause_of i)) 23 ≡ eqb i 23
