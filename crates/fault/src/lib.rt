@@ -6,6 +6,10 @@ ghost use Rattle.fault.specs.Faults.{number_of, cause_of, refusal};
 ghost use Rattle.fault.specs.declared.Layer.TheVariants as layer;
 ghost use Rattle.fault.specs.Texts.{layer_text, fault_text};
 
+mod line;
+
+pub use line::refusal_line;
+
 use std::alloc::AllocError;
 use std::fmt;
 
@@ -122,18 +126,26 @@ impl From<Cause> for u8 {
     }
 }
 
-// The layer's name.
-impl fmt::Display for Layer {
-    ghost output = { λ l. Some (layer_text l) };
-
-    fn fmt<W: fmt::Write>(&self, f: &mut fmt::Formatter<W>) -> fmt::Result {
-        f.write_str(match *self {
+impl Layer {
+    // The layer's name.
+    pub fn name(self) -> &'static str
+        ensures { result.now ≡ layer_text self }
+    {
+        match self {
             Layer::Task => "task",
             Layer::Book => "book",
             Layer::Run => "run",
             Layer::Store => "store",
             Layer::File => "file",
-        })
+        }
+    }
+}
+
+impl fmt::Display for Layer {
+    ghost output = { λ l. Some (layer_text l) };
+
+    fn fmt<W: fmt::Write>(&self, f: &mut fmt::Formatter<W>) -> fmt::Result {
+        f.write_str(self.name())
     }
 }
 
