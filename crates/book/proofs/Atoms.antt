@@ -1,11 +1,11 @@
 -- Atoms in groups that rise.
-use Rattle.std.proofs.Common.{◌≡◌, ℕ, zero, suc, ◌+◌, ◌<◌, ◌≤◌, Bool, true, false, cond, not, ◌&&◌, eqb, leb, List, [], ◌∷◌, length, get_or, take, Some, None, Ok, Err, Option, Result, sym, refl, ap, ◌∙◌, ⊎_elim, arith, eq-eqb, ne_eqb, le-leb}
+use Rattle.std.proofs.Common.{◌≡◌, ℕ, zero, suc, ◌+◌, ◌<◌, ◌≤◌, Bool, true, false, cond, not, ◌&&◌, ◌||◌, eqb, leb, List, [], ◌∷◌, length, get_or, take, drop, slice_get, Some, None, Ok, Err, Option, Result, sym, refl, ap, ◌∙◌, ⊎_elim, arith, eq-eqb, ne_eqb, le-leb}
 use borrow.Author.Tests.{lt-leb}
 use Rattle.std.specs.List.Sorted.{IsBinarySearchResult}
-use Rattle.std.specs.Option.{is_some}
+use Rattle.std.specs.Option.{is_some, option_eq}
 use Rattle.std.specs.Ordering.{nat_cmp}
 use Rattle.std.specs.Result.{result_ok}
-use Rattle.std.proofs.lemmas.Bool.{and_left, and_right, and_from, or_left, or_right, or_from, cases_lt}
+use Rattle.std.proofs.lemmas.Bool.{and_left, and_right, and_from, or_left, or_right, or_from, cases_lt, cases_eq}
 use Rattle.std.proofs.lemmas.List.Sorted.{searched}
 use Rattle.fault.specs.declared.Fault.{Fault}
 use Rattle.fault.specs.declared.Layer.TheVariants as layer
@@ -40,6 +40,20 @@ position_at (y ∷ ys) x zero h e n = ap (λ b. cond b 0 (suc (position x ys))) 
 position_at (y ∷ ys) x (suc k) h e n =
     ap (λ b. cond b 0 (suc (position x ys))) (ne_eqb x y (λ q. n 0 (omega arith) (sym q)))
     ∙ ap suc (position_at ys x k (omega arith) e (λ j l q. n (suc j) (omega arith) q))
+
+-- what is below x can be left out at the front
+pub has_past : (xs : List ℕ) (x i : ℕ) → ((k : ℕ) → k < i → get_or xs k 0 < x) → has x (drop i xs) ≡ has x xs
+has_past xs x zero h = refl
+has_past [] x (suc i) h = refl
+has_past (y ∷ ys) x (suc i) h = has_past ys x i (λ k l. h (suc k) (omega arith)) ∙ sym (ap (λ b. b || has x ys) (ne_eqb x y (λ e. omega (arith, h 0 (omega arith), e))))
+
+-- where none is below x, only the first can be x
+pub has_first : (xs : List ℕ) → Rises xs → (x : ℕ) → ((k : ℕ) → k < length xs → x ≤ get_or xs k 0) → option_eq eqb (slice_get xs 0) (Some x) ≡ has x xs
+has_first [] rise x h = refl
+has_first (y ∷ ys) rise x h = ⊎_elim
+    (λ e. eq-eqb y x e ∙ sym (has_at (y ∷ ys) x 0 (omega arith) e))
+    (λ n. ne_eqb y x n ∙ sym (has_nowhere (y ∷ ys) x (λ k l e. ⊎_elim (λ p. omega (arith, rise 0 k p l, h 0 (omega arith), e)) (λ z. let f : k ≡ 0 = omega arith in n (sym (ap (λ j. get_or (y ∷ ys) j 0) f) ∙ e)) (cases_lt 0 k))))
+    (cases_eq y x)
 
 -- a binary search for x in a list that rises
 found_at : (xs : List ℕ) → Rises xs → (x k : ℕ) → k < length xs → get_or xs k 0 ≡ x → Some k ≡ cond (has x xs) (Some (position x xs)) None

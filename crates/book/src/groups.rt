@@ -1,5 +1,5 @@
 // Checking the two groups of atoms, and finding an atom in a group.
-ghost use Rattle.std.specs.Prelude.{◌≡◌, ◌+◌, ◌<◌, ◌≤◌, length, take, if◌then◌else◌, Some, None};
+ghost use Rattle.std.specs.Prelude.{◌≡◌, ℕ, ◌+◌, ◌<◌, ◌≤◌, length, take, slice_index, if◌then◌else◌, Some, None};
 ghost use Rattle.model.specs.Lists.{has, position};
 ghost use Rattle.book.specs.Reads.{starts_in, always_in};
 ghost use Rattle.book.specs.Groups.{Rises, members_in};
@@ -24,13 +24,36 @@ impl<'a> Group<'a> {
     {
         self.atoms.binary_search(&atom).ok()
     }
+
+    // The group without its atoms below that one.
+    fn without_below(self, atom: u32) -> Group<'a>
+        ensures none_below { (k : ℕ) → k < length result.atoms.now → atom ≤ slice_index result.atoms.now k }
+        ensures kept { (x : ℕ) → atom ≤ x → has x result.atoms.now ≡ has x self.entry.atoms.now }
+    {
+        for (place, found) in self.atoms.iter().enumerate() {
+            if *found >= atom {
+                return Group {
+                    atoms: &self.atoms[place..],
+                };
+            }
+        }
+        Group { atoms: &[] }
+    }
+
+    // Whether the atom stands in a group that has none below it.
+    fn begins_with(&self, atom: u32) -> bool
+        requires { (k : ℕ) → k < length self.now.atoms.now → atom ≤ slice_index self.now.atoms.now k }
+        ensures { result ≡ has atom self.now.atoms.now }
+    {
+        self.atoms.first().copied() == Some(atom)
+    }
 }
 
-// The atoms of a group, from place `from`: they rise, and none is among the others.
+// The atoms of a group, from place `from`: they rise, and none is among the others. Each of the others is passed once, as both groups rise.
 fn check_members(
     table: &BookTable,
     place: Place,
-    others: Group,
+    mut others: Group,
     count: u32,
     from: usize,
 ) -> Result<usize, Fault>
@@ -41,7 +64,8 @@ fn check_members(
     let mut at = from;
     for _ in 0..count {
         let atom = head_at(table, place, 513, at)?.operand;
-        if (atom as u64) < low || others.place_of(atom).is_some() {
+        others = others.without_below(atom);
+        if (atom as u64) < low || others.begins_with(atom) {
             return Err(Fault::new(Cause::NotRising, Layer::Book, at as u64));
         }
         low = atom as u64 + 1;
