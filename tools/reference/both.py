@@ -4,7 +4,8 @@
     both.py scenario | diff - crates/scenario/stdout
     both.py lists_on_both | diff - crates/lists_on_both/stdout
 
-The tables and the calls with their words are read from the sources of the programs; what a task and a book mean is read here."""
+The tables and the calls with their words are read from the sources of the programs; what a task and a book mean is read here. The book of
+the scenario is made here, and its actions are told in words that stand here; those of the lists are tables, which are compared."""
 import pathlib
 import re
 import sys
@@ -212,10 +213,25 @@ def both_of(source):
     return OfTask(task), OfBook(sizes, entries)
 
 
+def in_words(name):
+    """A name of the scenario."""
+    operator, objects = name
+    if operator == 3:
+        return "the timeout handler fires"
+    objects = ["the " + ("publisher", "reader", "mutex", "heading", "track")[o] for o in objects]
+    return f"{objects[0]} {('locks', 'unlocks', 'writes', '', 'copies')[operator]} {objects[-1]}"
+
+
 def tell_scenario(source):
-    of_task, of_book = both_of(source)
+    task = Task(source.sizes("SIZES"), source.table("TABLE"))
+    sizes, entries = book(task)
+    of_task, of_book = OfTask(task), OfBook(sizes, entries)
     print(f"the task is loaded: {of_task.atoms} atoms")
+    print("its book is written: of {} atoms {} are relevant and {} always true; {} actions, {} entries".format(*sizes))
     print(f"its book is opened: {of_book.room} relevant atoms")
+    print("its actions:")
+    for name, _, _ in of_book.actions:
+        print("    " + in_words(name))
     print("the bad state: the display shows the new heading with the old track")
     tell("", source.list("STORY"), of_task, of_book, ((64, 64), (16, 16)))
 
@@ -236,8 +252,8 @@ def tell_lists(source):
 
 
 if __name__ == "__main__":
-    middleware = ["middleware/src/lib.rt", "middleware/src/ground_actions.rt"]
+    task = "middleware/src/lib.rt"
     if sys.argv[1] == "scenario":
-        tell_scenario(Source(*middleware, "middleware/src/story.rt"))
+        tell_scenario(Source(task, "middleware/src/story.rt"))
     else:
-        tell_lists(Source(*middleware, "lists_on_both/src/lists.rt"))
+        tell_lists(Source(task, "middleware/src/ground_actions.rt", "lists_on_both/src/lists.rt"))

@@ -21,6 +21,18 @@ fn answer<const N: usize>(sizes: Sizes, table: &[(Kind, u32); N]) -> Result<(), 
     load(sizes, &arrays.kinds, &arrays.operands)
 }
 
+// How many atoms a task has that loads; none where it does not.
+fn atoms_of<const N: usize>(sizes: Sizes, table: &[(Kind, u32); N]) -> u32
+    requires { N ≤ 257 }
+{
+    let arrays = Arrays::of(table);
+    let mut task = Task::new();
+    if task.load(sizes, &arrays.kinds, &arrays.operands).is_err() {
+        return 0;
+    }
+    task.atoms()
+}
+
 fn refused(cause: Cause, place: u64) -> Result<(), Fault> {
     Err(Fault::new(cause, Layer::Task, place))
 }
@@ -83,23 +95,24 @@ fn objects(rt: HostRuntime) {
     );
 }
 
-// Two predicates of arity three over 32 objects have 65,536 atoms; one atom more is too many.
+// Two predicates of arity three over 32 objects have 65,536 atoms; a predicate without arguments makes one atom more, which is too many.
 #[test]
 fn atoms(rt: HostRuntime) {
-    let (triples, goal) = ((Kind::Predicate, 3), (Kind::True, 0));
+    let (triples, single, goal) = ((Kind::Predicate, 3), (Kind::Predicate, 0), (Kind::True, 0));
     let most = Sizes {
         predicates: 2,
         entries: 3,
         ..one_entry(32)
     };
     assert_eq!(rt; answer(most, &[triples, triples, goal]), Ok(()));
+    assert_eq!(rt; atoms_of(most, &[triples, triples, goal]), 65_536);
     let more = Sizes {
         predicates: 3,
         entries: 4,
         ..one_entry(32)
     };
     assert_eq!(rt;
-        answer(more, &[triples, triples, triples, goal]),
+        answer(more, &[triples, triples, single, goal]),
         refused(Cause::TooManyAtoms, 2)
     );
 }
@@ -120,6 +133,14 @@ fn entries_of_a_formula(rt: HostRuntime) {
         ..one_entry(1)
     };
     assert_eq!(rt; answer(more, &table), refused(Cause::TooLongOrDeep, 256));
+}
+
+// The numbers of the refusals at the limits.
+#[test]
+fn numbers(rt: HostRuntime) {
+    assert_eq!(rt; u8::from(Cause::SizeOutOfLimits), 1);
+    assert_eq!(rt; u8::from(Cause::TooLongOrDeep), 6);
+    assert_eq!(rt; u8::from(Cause::TooManyAtoms), 7);
 }
 
 // Each refusal of loading once.

@@ -4,11 +4,13 @@
 
 mod ground_actions;
 mod story;
+mod words;
 
 use adl::Sizes;
 pub use ground_actions::{BOOK_ENTRIES, BOOK_SIZES, BOOK_TABLE};
 pub use story::STORY;
 use table::Kind;
+pub use words::InWords;
 
 // Objects.
 pub const PUBLISHER: u32 = 0;

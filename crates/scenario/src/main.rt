@@ -1,14 +1,15 @@
-// Plays the scenario on its task and on its book: a timeout handler sets the mutex free while the publisher still writes, and the reader
-// shows a mixed message.
+// Makes the book of the scenario's task and plays the scenario on both: a timeout handler sets the mutex free while the publisher still
+// writes, and the reader shows a mixed message.
 #![tactic(auto)]
 
+mod actions;
 mod story;
 
-use middleware::{BOOK_TABLE, TABLE};
+use middleware::TABLE;
 use std::io;
 use story::tell;
 use trials::Arrays;
 
 fn main(rt: HostRuntime) -> io::Result<()> {
-    tell(&rt, &Arrays::of(&TABLE), &Arrays::of(&BOOK_TABLE))
+    tell(&rt, rt.alloc(), &Arrays::of(&TABLE))
 }
