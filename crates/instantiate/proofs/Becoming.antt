@@ -37,12 +37,12 @@ told_none f = refl
 pub told_to : (f : ℕ → Verdict) (n m : ℕ) (vs : List Verdict) → n ≡ m → vs ≡ map f (below n) → vs ≡ map f (below m)
 told_to f n m vs h e = e ∙ ap (λ x. map f (below x)) h
 
-below_length : (n : ℕ) → length (below n) ≡ n
+pub below_length : (n : ℕ) → length (below n) ≡ n
 unfolding below
 below_length zero = refl
 below_length (suc n) = omega (arith, length-append (below n) (n ∷ []), below_length n)
 
-below_at : (n k : ℕ) → k < n → get_or (below n) k 0 ≡ k
+pub below_at : (n k : ℕ) → k < n → get_or (below n) k 0 ≡ k
 unfolding below
 below_at zero k h = absurd (omega arith)
 below_at (suc n) k h =

@@ -7,7 +7,7 @@ use Rattle.table.specs.declared.arrays.Head.{Head}
 use Rattle.instantiate.specs.Growing.{over}
 
 -- one number more
-put_next : (xs old : List ℕ) (i v : ℕ) → length xs ≡ i → i < length old → set (over xs old) i v ≡ over (xs ++ v ∷ []) old
+pub put_next : (xs old : List ℕ) (i v : ℕ) → length xs ≡ i → i < length old → set (over xs old) i v ≡ over (xs ++ v ∷ []) old
 put_next xs old i v e l =
     ap (λ n. set (xs ++ drop n old) i v) e
     ∙ ap (λ rest. set (xs ++ rest) i v) (drop_more old i 0 l)

@@ -1,0 +1,6 @@
+mod Booked
+mod Bytes
+mod Fitting
+mod Loaded
+mod Opening
+mod ReadBack

@@ -1,0 +1,3 @@
+pub mod Formats
+pub mod Theorems
+pub mod Converting
