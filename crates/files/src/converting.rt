@@ -1,5 +1,5 @@
 // Converting the file of a task into the file of its book.
-ghost use Rattle.std.specs.Prelude.{◌≡◌, ◌⊎◌, length, take, Err, IfOk, MatchResult};
+ghost use Rattle.std.specs.Prelude.{◌≡◌, ◌≤◌, ◌⊎◌, length, take, Err, IfOk, MatchResult};
 ghost use Rattle.table.specs.Answers.{whether};
 ghost use Rattle.adl.specs.Held.{tree_of};
 ghost use Rattle.instantiate.specs.Growing.{over};
@@ -36,6 +36,7 @@ fn write_book_of(
     ensures answers { (result ≡ Err no_memory) ⊎ (result ≡ writes_file (tree_of task.now) (length literals.old) (length kinds.old) (length operands.old) (length output.old)) }
     ensures written { MatchResult result (λ _. output.new ≡ over (book_file (tree_of task.now)) output.old) (λ _. output.new ≡ output.old) }
     ensures opens { IfOk result (λ n. HoldsBook (take n output.new) (book_in (tree_of task.now))) }
+    ensures inside { IfOk result (λ n. n ≤ length output.old) }
 {
     let sizes = instantiate(alloc, task, literals, kinds, operands)?;
     let entries = sizes.entries as usize;
@@ -73,6 +74,7 @@ fn convert_in(
         (writes_file (task_in_file input.now) (length literals.old) (length book_kinds.old) (length book_operands.old) (length output.old))) }
     ensures written { MatchResult result (λ _. output.new ≡ over (book_file (task_in_file input.now)) output.old) (λ _. output.new ≡ output.old) }
     ensures opens { IfOk result (λ n. HoldsBook (take n output.new) (book_in (task_in_file input.now))) }
+    ensures inside { IfOk result (λ n. n ≤ length output.old) }
 {
     let task = load_file(input, task_kinds, task_operands)?;
     write_book_of(alloc, &task, literals, book_kinds, book_operands, output)
@@ -84,6 +86,7 @@ pub fn convert(alloc: Global, input: &[u8], lent: Lent, output: &mut [u8]) -> Re
     ensures answers { (result ≡ Err no_memory) ⊎ (result ≡ converts input.now (room_of lent.entry) (length output.old)) }
     ensures written { MatchResult result (λ _. output.new ≡ over (book_file (task_in_file input.now)) output.old) (λ _. output.new ≡ output.old) }
     ensures opens { IfOk result (λ n. HoldsBook (take n output.new) (book_in (task_in_file input.now))) }
+    ensures inside { IfOk result (λ n. n ≤ length output.old) }
 {
     let Lent {
         task_kinds,

@@ -1,5 +1,5 @@
 // Writing the file of a book.
-ghost use Rattle.std.specs.Prelude.{◌≡◌, ◌+◌, ◌*◌, ◌++◌, Ok, Err, length, take, cond, nat_lt, IfOk, MatchResult};
+ghost use Rattle.std.specs.Prelude.{◌≡◌, ◌≤◌, ◌+◌, ◌*◌, ◌++◌, Ok, Err, length, take, cond, nat_lt, IfOk, MatchResult};
 ghost use Rattle.fault.specs.Faults.{refusal};
 ghost use Rattle.fault.specs.declared.Layer.TheVariants as layer;
 ghost use Rattle.instantiate.specs.Growing.{over};
@@ -25,6 +25,7 @@ pub(crate) fn write_book_file(
     ensures written { MatchResult result
         (λ _. output.new ≡ over (laid_out (size_list sizes) kinds.now operands.now) output.old)
         (λ _. output.new ≡ output.old) }
+    ensures inside { IfOk result (λ n. n ≤ length output.old) }
     ensures tells { IfOk result (λ n. Tells (size_list sizes) kinds.now operands.now (take n output.new)) }
 {
     let Sizes {
