@@ -12,7 +12,7 @@ const FILE: usize = 65536;
 const PLACES: usize = 8192;
 
 // Writes the book's file, or the line of the refusal.
-pub fn write_converted(alloc: Global, input: &[u8], out: &mut impl Write) -> io::Result<ExitCode> {
+pub(crate) fn write_converted(alloc: Global, input: &[u8], out: &mut impl Write) -> io::Result<ExitCode> {
     let none = Literal {
         atom: 0,
         sign: Sign::Adds,

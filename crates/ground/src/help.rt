@@ -1,6 +1,6 @@
 // What the program says of itself.
 
-pub const HELP: &str = "\
+pub(crate) const HELP: &str = "\
 ground: turns the file of a planning task into the file of its book of ground actions
 
     ground < TASK > BOOK
