@@ -251,7 +251,7 @@ consequents_written (c ∷ cs) = let w = consequents_written cs in (ap (λ x. wr
 
 module _ (t : Table) where
   -- a consequent is written where it is read
-  consequent_spelled : (room : ℕ) (a : Around) (i : ℕ) (c : Consequent) (j : ℕ) → consequent t room a i ≡ good c j → Spells t (limit a) (write_consequent c) i j
+  pub consequent_spelled : (room : ℕ) (a : Around) (i : ℕ) (c : Consequent) (j : ℕ) → consequent t room a i ≡ good c j → Spells t (limit a) (write_consequent c) i j
   unfolding consequent
   consequent_spelled zero a i c j e = let w = on_from t place.Consequent a i (λ e j. bad 6 i) c j e in bad_is_not_good 6 i c j w.1
   consequent_spelled (suc room) a i c j e =

@@ -1,3 +1,4 @@
 pub mod Becoming
 pub mod Clashes
+pub mod Places
 pub mod Opening

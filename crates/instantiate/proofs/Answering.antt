@@ -9,7 +9,7 @@ use Rattle.model.specs.Trees.{Task}
 use Rattle.model.specs.Books.{book}
 use Rattle.book.specs.declared.sizes.Sizes.{Sizes}
 use Rattle.instantiate.specs.Outcome.{book_entries, instantiates, literals_one, literals_needed, most, sizes_of, unless_clash}
-use Rattle.instantiate.specs.Places.{first_clash}
+use Rattle.book_of_task.specs.Places.{first_clash}
 use Rattle.instantiate.specs.Refusals.{no_memory, TooShort, TooLong}
 
 module _ (t : Task) (room ks os : ℕ) where

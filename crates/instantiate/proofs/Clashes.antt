@@ -4,11 +4,13 @@ use Rattle.model.specs.Trees.{Task, Name}
 use Rattle.model.specs.Forming.{WellFormed}
 use Rattle.model.specs.Meaning.{fits, Literal}
 use Rattle.model.specs.Settling.{Verdict, always, unsettled, Round, settle, is, reach, round_one, round_two}
-use Rattle.model.proofs.Values.{clash}
 use Rattle.book_of_task.specs.Becoming.{SameBecoming}
 use Rattle.book_of_task.specs.Clashes.{is_always, some_clashes}
+use Rattle.book_of_task.specs.Places.{clash_of}
 use Rattle.book_of_task.proofs.Becoming.{what_atoms_become}
 use Rattle.book_of_task.proofs.Clashes.{no_literal_clashes}
+use Rattle.std.proofs.Math.Option.{Option, some, none}
+use Rattle.runs.proofs.Clashing.{none_of}
 use Rattle.runs.specs.Clauses.{Explains, fault_of}
 use Rattle.runs.specs.declared.draft.Stop.{Stop}
 use Rattle.runs.specs.declared.draft.Stop.TheVariants.{NoMemory, Clash}
@@ -29,17 +31,17 @@ alike r r' same (l ∷ ls) =
     (alike r r' same ls)
 
 -- only want of memory stops the writing where no literal clashes
-stopped : (b : Bool) (s : Stop) → b ≡ false → Explains b s → fault_of s ≡ no_memory
-stopped b NoMemory e x = refl
-stopped b (Clash p) e x = clash (sym e ∙ x)
+stopped : (first : Option ℕ) (s : Stop) → first ≡ none → Explains first s → fault_of s ≡ no_memory
+stopped first NoMemory e x = refl
+stopped first (Clash p) e x = absurd (let q : ◌≡◌ {A = Option ℕ} none (some p) = sym e ∙ x in cc)
 
 module _ (t : Task) (formed : WellFormed t) (r : Round) (m : Name) (fit : fits t m ≡ true) where
   none_in : (r' : Round) → SameBecoming r r' → some_clashes r' (reach t r' m) ≡ false → some_clashes r (reach t r m) ≡ false
-  none_in r' same none =
-      alike r r' same (reach t r m) ∙ ap (some_clashes r') ((what_atoms_become t r r' same).reach m) ∙ none
+  none_in r' same e =
+      alike r r' same (reach t r m) ∙ ap (some_clashes r') ((what_atoms_become t r r' same).reach m) ∙ e
 
-  pub stopped_in_one : SameBecoming r (round_one t) → (s : Stop) → Explains (some_clashes r (reach t r m)) s → fault_of s ≡ no_memory
-  stopped_in_one same s = stopped (some_clashes r (reach t r m)) s (none_in (round_one t) same (no_literal_clashes t formed m fit).one)
+  pub stopped_in_one : SameBecoming r (round_one t) → (s : Stop) → Explains (clash_of t r m) s → fault_of s ≡ no_memory
+  stopped_in_one same s = stopped (clash_of t r m) s (none_of t r m (none_in (round_one t) same (no_literal_clashes t formed m fit).one))
 
-  pub stopped_in_two : SameBecoming r (round_two t) → (s : Stop) → Explains (some_clashes r (reach t r m)) s → fault_of s ≡ no_memory
-  stopped_in_two same s = stopped (some_clashes r (reach t r m)) s (none_in (round_two t) same (no_literal_clashes t formed m fit).two)
+  pub stopped_in_two : SameBecoming r (round_two t) → (s : Stop) → Explains (clash_of t r m) s → fault_of s ≡ no_memory
+  stopped_in_two same s = stopped (clash_of t r m) s (none_of t r m (none_in (round_two t) same (no_literal_clashes t formed m fit).two))

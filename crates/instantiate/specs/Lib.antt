@@ -1,5 +1,4 @@
 pub mod Listing
-pub mod Places
 pub mod Outcome
 pub mod Growing
 pub mod Verdicts

@@ -14,7 +14,7 @@ use Rattle.model.specs.Books.{actions, book}
 use Rattle.book.specs.declared.sizes.Sizes.{Sizes}
 use Rattle.book_theorems.specs.Writes.{write_start, write_ground, write_book}
 use Rattle.instantiate.specs.Listing.{different}
-use Rattle.instantiate.specs.Places.{first_clash}
+use Rattle.book_of_task.specs.Places.{first_clash}
 
 -- the names of an operator's actions
 abbrev pub names_of : Task → ℕ → List Name

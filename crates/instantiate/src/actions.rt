@@ -18,15 +18,7 @@ use crate::growing::Growing;
 use crate::work::{Work, fitting};
 use adl::Task;
 use fault::Fault;
-use runs::{Draft, Fitting, Verdict, list_choices};
-use std::alloc::AllocError;
-
-// One count of actions after another: more than 32 bits hold are more than memory holds.
-fn sum(first: u32, second: u32) -> Result<u32, AllocError>
-    ensures { IfOk result (λ n. n ≡ first + second) }
-{
-    first.checked_add(second).ok_or(AllocError)
-}
+use runs::{Draft, Fitting, Verdict, list_choices, sum_of_counts};
 
 // Appends the action of a name, unless its precondition is FALSE; tells how many it appends.
 fn write_one(
@@ -70,7 +62,7 @@ fn write_operator(
     for objects in &work.choices {
         let fitting = fitting(task, operator, &objects[..count]);
         let more = write_one(&fitting, verdicts, &mut work.draft, book)?;
-        actions = sum(actions, more)?;
+        actions = sum_of_counts(actions, more)?;
     }
     Ok(actions)
 }
@@ -92,7 +84,7 @@ pub(crate) fn write_actions(
     let mut actions = 0;
     for operator in 0..task.table.sizes.operators {
         let more = write_operator(task, verdicts, operator, work, book)?;
-        actions = sum(actions, more)?;
+        actions = sum_of_counts(actions, more)?;
     }
     Ok(actions)
 }

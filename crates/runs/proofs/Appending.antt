@@ -1,5 +1,6 @@
 -- What is written piece after piece is what all pieces together make.
 use Rattle.std.proofs.Common.{◌≡◌, ℕ, ◌+◌, Bool, true, false, cond, not, ◌||◌, List, [], ◌∷◌, ◌++◌, map, length, sym, refl, ap, ◌∙◌, subst, Result, IfOk, IfErr, arith}
+use Rattle.std.proofs.Math.Option.{Option, some}
 use Rattle.std.proofs.lemmas.List.{append_assoc, append-nil, length-append, length-map, map-append}
 use Rattle.std.proofs.lemmas.Result.{IfOk-weaker, IfErr-weaker}
 use Rattle.std.specs.Bool.{beq}
@@ -10,7 +11,6 @@ use Rattle.model.specs.Meaning.{Literal, Part, ground, literals_where}
 use Rattle.model.specs.Trees.{Task, Consequent, outcomes_of, all_outcomes}
 use Rattle.model.specs.Settling.{always, Ground, known, is, Round, is_unsettled, simplify, possible}
 use Rattle.model.specs.Books.{Clause, plain, on_facts, under, clauses}
-use Rattle.model.proofs.Members.{any_left, any_right}
 use Rattle.adl.specs.Reads.{consequents_of}
 use Rattle.book_theorems.specs.Writes.{write_literal, write_clause}
 use Rattle.rising.specs.declared.literal.Literal as code
@@ -22,9 +22,9 @@ use Rattle.runs.specs.declared.verdict.Verdict.{Verdict}
 use Rattle.runs.specs.declared.verdict.Verdict.TheVariants.{Always}
 use Rattle.runs.specs.Settled.{meaning, fact_in, at, round_of}
 use Rattle.book_of_task.specs.Clashes.{is_always, clashes, some_clashes}
-use Rattle.runs.specs.Clauses.{Explains, Appends, LiteralsWritten, PartsWritten, parts_clash}
+use Rattle.runs.specs.Clauses.{Explains, Appends, LiteralsWritten, PartsWritten}
 use Rattle.runs.specs.Effects.{meant, consequent_literals, consequents_literals}
-use Rattle.runs.proofs.Walks.{cond_append, gather_append}
+use Rattle.runs.proofs.Walks.{any_append, cond_append, gather_append}
 
 -- Lists.
 
@@ -39,9 +39,9 @@ on_facts_append r (l ∷ ls) ms =
 pub longer : {A : Type 0} (ls ms ns : List A) {xs ys : List A} → ys ≡ ms ++ ns → xs ≡ ls ++ ys → xs ≡ (ls ++ ms) ++ ns
 longer ls ms ns p q = q ∙ ap (λ zs. ls ++ zs) p ∙ sym (append_assoc ls ms ns)
 
--- what passes a test stands in the whole
-pub any_inside : {A : Type 0} (p : A → Bool) (ls ms ns : List A) {xs : List A} → xs ≡ (ls ++ ms) ++ ns → any_of p ms ≡ true → any_of p xs ≡ true
-any_inside p ls ms ns e h = ap (any_of p) e ∙ any_left p (ls ++ ms) ns (any_right p ls ms h)
+-- what passes a test stands in neither list
+none_together : {A : Type 0} (p : A → Bool) (ls ms : List A) → any_of p ls ≡ false → any_of p ms ≡ false → any_of p (ls ++ ms) ≡ false
+none_together p ls ms e q = any_append p ls ms ∙ ap (λ b. b || any_of p ms) e ∙ q
 
 -- Entries and literals.
 
@@ -63,13 +63,14 @@ appended_as {es} {fs} {ls} {ms} {a} {b} p q h = subst (λ xs. Appends xs ms a b)
 
 module _ (r : Round) where
   pub no_literals : (a : Draft) → LiteralsWritten r [] a a 0
-  no_literals a = (nothing_appended a, refl)
+  no_literals a = (nothing_appended a, refl, refl)
 
   pub literals_after : (ls ms : List Literal) (a b c : Draft) (m n k : ℕ) → LiteralsWritten r ls a b m → LiteralsWritten r ms b c n → k ≡ m + n → LiteralsWritten r (ls ++ ms) a c k
   literals_after ls ms a b c m n k p q e =
       let f = on_facts_append r ls ms in (
         appended_as (sym (ap (gather write_literal) f ∙ gather_append write_literal (on_facts r ls) (on_facts r ms))) refl (appended_after p.0 q.0),
         omega (arith, p.1, q.1, e, ap (λ (xs : List Literal). length xs) f, length-append (on_facts r ls) (on_facts r ms)),
+        none_together (clashes r) ls ms p.2 q.2,
       )
 
   pub literals_as : (ls ms : List Literal) (a b : Draft) (n : ℕ) → ms ≡ ls → LiteralsWritten r ls a b n → LiteralsWritten r ms a b n
@@ -86,24 +87,27 @@ on_fact b v = cond (is_unsettled (meaning v)) (record { adds = b; atom = fact_in
 
 module _ (vs : List Verdict) (l : code.Literal) where
   pub literal_written : (v : Verdict) (a b : Draft) (n : ℕ) → v ≡ at vs l.atom
-      → Appends (gather write_literal (on_fact (is_adds l.sign) v)) (meant l ∷ []) a b → n ≡ length (on_fact (is_adds l.sign) v) → LiteralsWritten (round_of vs) (meant l ∷ []) a b n
-  literal_written v a b n e h k = subst (λ v. Appends (gather write_literal (on_fact (is_adds l.sign) v)) (meant l ∷ []) a b × (n ≡ length (on_fact (is_adds l.sign) v))) e (h, k)
+      → Appends (gather write_literal (on_fact (is_adds l.sign) v)) (meant l ∷ []) a b → n ≡ length (on_fact (is_adds l.sign) v) → is_always (not (is_adds l.sign)) (meaning v) ≡ false
+      → LiteralsWritten (round_of vs) (meant l ∷ []) a b n
+  literal_written v a b n e h k q =
+      subst (λ v. Appends (gather write_literal (on_fact (is_adds l.sign) v)) (meant l ∷ []) a b × (n ≡ length (on_fact (is_adds l.sign) v)) × ((is_always (not (is_adds l.sign)) (meaning v) || false) ≡ false)) e
+      (h, k, ap (λ b. b || false) q)
 
   -- a literal on a settled atom clashes if it would change it
-  pub literal_clashes : (b : Bool) → Always b ≡ at vs l.atom → not (beq b (is_adds l.sign)) ≡ true → some_clashes (round_of vs) (meant l ∷ []) ≡ true
-  literal_clashes b e h = ap (λ v. is_always (not (is_adds l.sign)) (meaning v) || false) (sym e) ∙ changes b (is_adds l.sign) ∙ h
-    where
-      changes : (x y : Bool) → (is_always (not y) (always x) || false) ≡ not (beq x y)
-      changes true true = refl
-      changes true false = refl
-      changes false true = refl
-      changes false false = refl
+  pub changes : (x y : Bool) → is_always (not y) (always x) ≡ not (beq x y)
+  changes true true = refl
+  changes true false = refl
+  changes false true = refl
+  changes false false = refl
+
+  pub literal_clashes : (b : Bool) → Always b ≡ at vs l.atom → not (beq b (is_adds l.sign)) ≡ true → clashes (round_of vs) (meant l) ≡ true
+  literal_clashes b e h = ap (λ v. is_always (not (is_adds l.sign)) (meaning v)) (sym e) ∙ changes b (is_adds l.sign) ∙ h
 
 -- Parts.
 
 module _ (t : Task) (r : Round) where
   pub no_parts : (a : Draft) → PartsWritten t r [] a a 0
-  no_parts a = (nothing_appended a, refl)
+  no_parts a = (nothing_appended a, refl, refl)
 
   clauses_append : (ps qs : List Part) → clauses t r (ps ++ qs) ≡ clauses t r ps ++ clauses t r qs
   clauses_append ps qs = gather_append (λ (p : Part). under (simplify t r p.sheet p.condition) (on_facts r p.literals)) ps qs
@@ -116,25 +120,20 @@ module _ (t : Task) (r : Round) where
       let f = clauses_append ps qs in (
         appended_as (sym (ap (gather write_clause) f ∙ gather_append write_clause (clauses t r ps) (clauses t r qs))) (sym (brought_append ps qs)) (appended_after p.0 q.0),
         omega (arith, p.1, q.1, e, ap (λ (xs : List Clause). length xs) f, length-append (clauses t r ps) (clauses t r qs)),
+        ap (some_clashes r) (brought_append ps qs) ∙ none_together (clashes r) (literals_where (possible t r) ps) (literals_where (possible t r) qs) p.2 q.2,
       )
 
   pub parts_as : (ps qs : List Part) (a b : Draft) (n : ℕ) → qs ≡ ps → PartsWritten t r ps a b n → PartsWritten t r qs a b n
   parts_as ps qs a b n e h = subst (λ xs. PartsWritten t r xs a b n) (sym e) h
 
-  -- literals of a part that clash stand in the whole
-  pub clash_inside : (ps qs rs : List Part) {xs : List Part} → xs ≡ (ps ++ qs) ++ rs → parts_clash t r qs ≡ true → parts_clash t r xs ≡ true
-  clash_inside ps qs rs e h =
-      let L = literals_where (possible t r) in
-      any_inside (clashes r) (L ps) (L qs) (L rs) (ap L e ∙ brought_append (ps ++ qs) rs ∙ ap (λ zs. zs ++ L rs) (brought_append ps qs)) h
-
 -- what one part comes to, by what is left of its condition
-abbrev pub PartWritten : Ground → List Literal → List Literal → Draft → Draft → ℕ → Type 0
-PartWritten g ls ms a b n = Appends (gather write_clause (under g ls)) (cond (not (is false g)) ms []) a b × (n ≡ length (under g ls))
+abbrev pub PartWritten : Round → Ground → List Literal → List Literal → Draft → Draft → ℕ → Type 0
+PartWritten r g ls ms a b n = Appends (gather write_clause (under g ls)) (cond (not (is false g)) ms []) a b × (n ≡ length (under g ls)) × (some_clashes r (cond (not (is false g)) ms []) ≡ false)
 
-pub one_part : (t : Task) (r : Round) (p : Part) (a b : Draft) (n : ℕ) → PartWritten (simplify t r p.sheet p.condition) (on_facts r p.literals) p.literals a b n → PartsWritten t r (p ∷ []) a b n
+pub one_part : (t : Task) (r : Round) (p : Part) (a b : Draft) (n : ℕ) → PartWritten r (simplify t r p.sheet p.condition) (on_facts r p.literals) p.literals a b n → PartsWritten t r (p ∷ []) a b n
 one_part t r p a b n h =
     let q = append-nil (under (simplify t r p.sheet p.condition) (on_facts r p.literals)) in
-    (appended_as (sym (ap (gather write_clause) q)) (sym (append-nil _)) h.0, h.1 ∙ sym (ap (λ (xs : List Clause). length xs) q))
+    (appended_as (sym (ap (gather write_clause) q)) (sym (append-nil _)) h.0, h.1 ∙ sym (ap (λ (xs : List Clause). length xs) q), ap (some_clashes r) (append-nil _) ∙ h.2)
 
 -- TRUE frees the literals
 freed : (ls : List Literal) → under (known true) ls ≡ map plain ls
@@ -145,19 +144,19 @@ plain_entries : (ls : List Literal) → gather write_clause (map plain ls) ≡ g
 plain_entries [] = refl
 plain_entries (l ∷ ls) = ap (λ zs. write_literal l ++ zs) (plain_entries ls)
 
-pub freed_part : (r : Round) (g : Ground) (ls : List Literal) (a b : Draft) (n : ℕ) → g ≡ known true → LiteralsWritten r ls a b n → PartWritten g (on_facts r ls) ls a b n
+pub freed_part : (r : Round) (g : Ground) (ls : List Literal) (a b : Draft) (n : ℕ) → g ≡ known true → LiteralsWritten r ls a b n → PartWritten r g (on_facts r ls) ls a b n
 freed_part r g ls a b n e h =
     let f = on_facts r ls in
     let q = freed f in
-    subst (λ x. PartWritten x f ls a b n) (sym e)
-    (appended_as (sym (ap (gather write_clause) q ∙ plain_entries f)) refl h.0, h.1 ∙ sym (ap (λ (xs : List Clause). length xs) q ∙ length-map f plain))
+    subst (λ x. PartWritten r x f ls a b n) (sym e)
+    (appended_as (sym (ap (gather write_clause) q ∙ plain_entries f)) refl h.0, h.1 ∙ sym (ap (λ (xs : List Clause). length xs) q ∙ length-map f plain), h.2)
 
 -- Stopping, or not.
 
 -- what explains a stop by a part explains it by the whole
-pub explained : (b c : Bool) (stop : Stop) → (b ≡ true → c ≡ true) → Explains b stop → Explains c stop
-explained b c NoMemory f h = tt
-explained b c (Clash p) f h = f h
+pub explained : (x y : Option ℕ) (stop : Stop) → ((p : ℕ) → x ≡ some p → y ≡ some p) → Explains x stop → Explains y stop
+explained x y NoMemory f h = tt
+explained x y (Clash p) f h = f p h
 
 -- where each thing of one sort stands, one of another sort stands that comes to the same
 pub record Turned {X Y Z : Type 0} (S : X → ℕ → Type 0) (U : Y → ℕ → Type 0) (F : X → Z) (G : Y → Z) : Type 0 where
@@ -171,7 +170,7 @@ module _ {X Y Z : Type 0} {S : X → ℕ → Type 0} {U : Y → ℕ → Type 0} 
       IfOk-weaker r (λ o. (x : X) (j : ℕ) → S x j → W (F x) o.0 × (o.1 ≡ j)) (λ o. (y : Y) (j : ℕ) → U y j → W (G y) o.0 × (o.1 ≡ j))
       (λ o h y j u. let x = t.one y j u in let e = h x.0 j x.1 in (subst (λ z. W z o.0) (sym x.2) e.0, e.1))
 
-  pub stopped_as : (K : Z → Bool) (r : Result (ℕ × ℕ) Stop)
+  pub stopped_as : (K : Z → Option ℕ) (r : Result (ℕ × ℕ) Stop)
       → IfErr r (λ stop. (x : X) (j : ℕ) → S x j → Explains (K (F x)) stop) → IfErr r (λ stop. (y : Y) (j : ℕ) → U y j → Explains (K (G y)) stop)
   stopped_as K r =
       IfErr-weaker r (λ stop. (x : X) (j : ℕ) → S x j → Explains (K (F x)) stop) (λ stop. (y : Y) (j : ℕ) → U y j → Explains (K (G y)) stop)

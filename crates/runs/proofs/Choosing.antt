@@ -4,6 +4,7 @@ use mathlib.Core.Path.{fun_ext}
 use Rattle.std.proofs.Math.Bool.{and-true, and-false}
 use Rattle.std.proofs.lemmas.Bool.{cond-true, cond-false}
 use Rattle.std.proofs.lemmas.List.{append-nil, append_assoc, map-append, map-id}
+use Rattle.std.specs.List.{All}
 use Rattle.table.specs.declared.places.Place.TheVariants as place
 use Rattle.table.specs.Reading.{good, many}
 use Rattle.model.specs.Lists.{below, keep, gather, any_of, has, distinct}
@@ -15,7 +16,7 @@ use Rattle.adl.specs.Reads.{parameter}
 use Rattle.table.proofs.Reading.{series_first}
 use Rattle.adl.proofs.Heads.{operand_read}
 use Rattle.adl_theorems.proofs.Standing.{parameter_read}
-use Rattle.runs.specs.Chosen.{chosen, choices_from}
+use Rattle.runs.specs.Chosen.{chosen, Unused, choices_from}
 use Rattle.runs.proofs.Fittings.{eq_turned}
 use Rattle.runs.proofs.Walks.{keep_append, any_append, none_kept, more_kept}
 
@@ -168,6 +169,10 @@ module _ (t : Task) where
   all_chosen i n m xs ys e q h =
       ap (λ k. map (chosen k) ys) e ∙ h ∙ ap (λ zs. map (chosen m) zs ++ map (λ os. [] ++ os) (choices_from t [] (operator_of t i).parameters)) q
       ∙ map-id (choices_from t [] (operator_of t i).parameters) ∙ choices_are t (operator_of t i).parameters
+
+-- what is unused of some arrays, by equal numbers
+pub unused_as : (m n : ℕ) (xs ys : List (List ℕ)) → m ≡ n → (All (Unused m) xs → All (Unused m) ys) → All (Unused n) xs → All (Unused n) ys
+unused_as m n xs ys e h = subst (λ k. All (Unused k) xs → All (Unused k) ys) e h
 
 -- Parameters.
 

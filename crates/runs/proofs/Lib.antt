@@ -5,6 +5,9 @@ pub mod Junctions
 pub mod EffectShapes
 pub mod Walks
 pub mod Appending
+pub mod Extending
+pub mod Clashing
+pub mod EffectPlaces
 pub mod Whens
 pub mod EffectInstances
 pub mod Filling

@@ -107,7 +107,7 @@ module _ (k : Task) where
         ∙ gather_append changes_of (take o ops) (get_or ops o nothing ∷ []) ∙ ap (λ cs. changes_below o ++ cs) (append-nil c) in
         touched_after x y z (changes_below o) c (changes_below (o + 1)) e a b
 
-  module _ (x y : Touched) (n : ℕ) (h : k.table.sizes.operators ≤ n) (s : Touches x (changes_below n) y) (p : ℕ) (l : p < k.table.sizes.predicates) where
+  module _ (x y : Touched) (n : ℕ) (h : k.table.sizes.operators ≤ n) (s : Touches x (changes_below n) y) (p : ℕ) (l : p < 32) where
     -- what was noted of all operators, where nothing was noted before
     pub all_added : adds x p ≡ false → adds y p ≡ not (inertia (tree_of k) true p)
     all_added e =

@@ -8,12 +8,11 @@ use Rattle.table.specs.declared.kind.Kind.TheVariants.{And, When}
 use Rattle.table.specs.Kinds.{code_of}
 use Rattle.table.specs.Entries.{coded}
 use Rattle.table.specs.Reading.{Entry, entry}
-use Rattle.model.specs.Lists.{gather, any_of}
+use Rattle.model.specs.Lists.{gather}
 use Rattle.model.specs.Meaning.{Literal}
-use Rattle.model.specs.Trees.{Task, Formula, Consequent}
-use Rattle.model.specs.Settling.{Ground, known, fact, negated, group, Round, is, simplify}
+use Rattle.model.specs.Trees.{Formula, Consequent}
+use Rattle.model.specs.Settling.{Ground, known, fact, negated, group, Round, is}
 use Rattle.model.specs.Books.{Clause, plain, when, under}
-use Rattle.model.proofs.Members.{any_left}
 use Rattle.book_theorems.specs.Writes.{write_ground, write_literal, write_clause}
 use Rattle.runs.specs.declared.draft.Draft.{Draft}
 use Rattle.runs.specs.declared.draft.Stop.{Stop}
@@ -21,10 +20,12 @@ use Rattle.runs.specs.declared.settling.Settling.{Settling}
 use Rattle.runs.specs.Shown.{bound}
 use Rattle.runs.specs.Settled.{truth_of, body}
 use Rattle.runs.specs.Left.{Left, FormulaOf, simplified_in}
-use Rattle.book_of_task.specs.Clashes.{clashes, some_clashes}
-use Rattle.runs.specs.Clauses.{Explains, Appends, LiteralsWritten, PartsWritten, parts_clash, task_in, round_in, literals_of, part_of}
+use Rattle.book_of_task.specs.Clashes.{some_clashes}
+use Rattle.book_of_task.specs.Places.{outcome_places}
+use Rattle.runs.specs.Clauses.{Explains, Appends, LiteralsWritten, PartsWritten, consequent_clash, when_clash, task_in, round_in, literals_of, part_of}
 use Rattle.runs.specs.Effects.{meant, ConsequentIn}
 use Rattle.runs.proofs.Appending.{PartWritten, appended_as, explained}
+use Rattle.runs.proofs.Clashing.{first_in_part}
 
 -- What is left of a condition.
 
@@ -114,35 +115,38 @@ pub appended_from : {es : List Entry} {ls : List Literal} {a b c : Draft} → ma
 appended_from {es} {ls} {a} {b} {c} p q h =
     record { entries = h.entries ∙ ap (λ zs. zs ++ es) p; literals = h.literals ∙ ap (λ zs. map meant zs ++ ls) q }
 
-module _ (g : Ground) (fs ms : List Literal) (a b : Draft) where
+module _ (r : Round) (g : Ground) (fs ms : List Literal) (a b : Draft) where
   -- nothing, if its condition is FALSE
-  pub when_dropped : g ≡ known false → map coded b.entries.items ≡ map coded a.entries.items → b.literals.items ≡ a.literals.items → PartWritten g fs ms a b 0
-  when_dropped e p q = subst (λ x. PartWritten x fs ms a b 0) (sym e) (each fs)
+  pub when_dropped : g ≡ known false → map coded b.entries.items ≡ map coded a.entries.items → b.literals.items ≡ a.literals.items → PartWritten r g fs ms a b 0
+  when_dropped e p q = subst (λ x. PartWritten r x fs ms a b 0) (sym e) (each fs)
     where
       none : Appends [] [] a b
       none = record { entries = p ∙ sym (append-nil _); literals = ap (map meant) q ∙ sym (append-nil _) }
 
-      each : (xs : List Literal) → PartWritten (known false) xs ms a b 0
-      each [] = (none, refl)
-      each (x ∷ xs) = (none, refl)
+      each : (xs : List Literal) → PartWritten r (known false) xs ms a b 0
+      each [] = (none, refl, refl)
+      each (x ∷ xs) = (none, refl, refl)
 
-  module _ (f : is false g ≡ false) where
+  module _ (f : is false g ≡ false) (clear : some_clashes r ms ≡ false) where
     noted : ms ≡ cond (not (is false g)) ms []
     noted = ap (λ (x : Bool). cond (not x) ms []) (sym f)
 
+    none_noted : some_clashes r (cond (not (is false g)) ms []) ≡ false
+    none_noted = ap (some_clashes r) (sym noted) ∙ clear
+
     -- nothing, if no literal is on a fact
-    pub when_bare : ◌≡◌ {A = ℕ} 0 (length fs) → Appends [] ms a b → PartWritten g fs ms a b 0
+    pub when_bare : ◌≡◌ {A = ℕ} 0 (length fs) → Appends [] ms a b → PartWritten r g fs ms a b 0
     when_bare e h = each fs e
       where
-        each : (xs : List Literal) → ◌≡◌ {A = ℕ} 0 (length xs) → PartWritten g xs ms a b 0
-        each [] z = (appended_as refl noted h, refl)
+        each : (xs : List Literal) → ◌≡◌ {A = ℕ} 0 (length xs) → PartWritten r g xs ms a b 0
+        each [] z = (appended_as refl noted h, refl, none_noted)
         each (x ∷ xs) z = absurd (omega arith)
 
     -- else its condition and its literals
-    pub when_kept : (n : ℕ) → (n ≡ 0 → ⊥) → n ≡ length fs → is true g ≡ false → Appends (entry 12 0 ∷ (write_ground g ++ (entry 5 n ∷ gather write_literal fs))) ms a b → PartWritten g fs ms a b 1
+    pub when_kept : (n : ℕ) → (n ≡ 0 → ⊥) → n ≡ length fs → is true g ≡ false → Appends (entry 12 0 ∷ (write_ground g ++ (entry 5 n ∷ gather write_literal fs))) ms a b → PartWritten r g fs ms a b 1
     when_kept n z e k h = each fs e h
       where
-        each : (xs : List Literal) → n ≡ length xs → Appends (entry 12 0 ∷ (write_ground g ++ (entry 5 n ∷ gather write_literal xs))) ms a b → PartWritten g xs ms a b 1
+        each : (xs : List Literal) → n ≡ length xs → Appends (entry 12 0 ∷ (write_ground g ++ (entry 5 n ∷ gather write_literal xs))) ms a b → PartWritten r g xs ms a b 1
         each [] e h = absurd (z e)
         each (x ∷ xs) e h =
             let u : under g (x ∷ xs) ≡ when g (x ∷ xs) ∷ [] =
@@ -150,11 +154,8 @@ module _ (g : Ground) (fs ms : List Literal) (a b : Draft) where
             ∙ ap (λ (b : Bool). cond b (map plain (x ∷ xs)) (when g (x ∷ xs) ∷ [])) k in (
               appended_as (ap (λ m. entry 12 0 ∷ (write_ground g ++ (entry 5 m ∷ gather write_literal (x ∷ xs)))) e ∙ sym (append-nil _) ∙ ap (gather write_clause) (sym u)) noted h,
               sym (ap (λ (cs : List Clause). length cs) u),
+              none_noted,
             )
-
--- its literals clash if it is not dropped
-pub when_clashes : (t : Task) (r : Round) (sh : List ℕ) (f : Formula) (ls : List Literal) → is false (simplify t r sh f) ≡ false → some_clashes r ls ≡ true → parts_clash t r (record { sheet = sh; condition = f; literals = ls } ∷ []) ≡ true
-when_clashes t r sh f ls e h = ap (λ (b : Bool). any_of (clashes r) (cond (not b) ls [] ++ [])) e ∙ any_left (clashes r) ls [] h
 
 -- Promises.
 
@@ -167,13 +168,12 @@ WhenPromised s at a b r = (f : Formula) (d : Consequent) (i j : ℕ) → Formula
 
 -- and why they stop
 abbrev pub LiteralsExplained : Settling → ℕ → Stop → Type 0
-LiteralsExplained s i stop = (d : Consequent) (j : ℕ) → ConsequentIn s.sheet i d j → Explains (some_clashes (round_in s) (literals_of s d)) stop
+LiteralsExplained s i stop = (d : Consequent) (j : ℕ) → ConsequentIn s.sheet i d j → Explains (consequent_clash s i d) stop
 
 abbrev pub WhenExplained : Settling → ℕ → Stop → Type 0
-WhenExplained s at stop = (f : Formula) (d : Consequent) (i j : ℕ) → FormulaOf s at f i → ConsequentIn s.sheet i d j → Explains (parts_clash (task_in s) (round_in s) (part_of s f d ∷ [])) stop
+WhenExplained s at stop = (f : Formula) (d : Consequent) (i j : ℕ) → FormulaOf s at f i → ConsequentIn s.sheet i d j → Explains (when_clash s i f d) stop
 
-pub when_explained : (s : Settling) (f : Formula) (d : Consequent) (stop : Stop) → is false (simplified_in s f) ≡ false → Explains (some_clashes (round_in s) (literals_of s d)) stop
-    → Explains (parts_clash (task_in s) (round_in s) (part_of s f d ∷ [])) stop
-when_explained s f d stop e h =
-    explained (some_clashes (round_in s) (literals_of s d)) (parts_clash (task_in s) (round_in s) (part_of s f d ∷ [])) stop
-    (when_clashes (task_in s) (round_in s) (bound s.sheet) f (literals_of s d) e) h
+pub when_explained : (s : Settling) (i : ℕ) (f : Formula) (d : Consequent) (stop : Stop) → is false (simplified_in s f) ≡ false → Explains (consequent_clash s i d) stop → Explains (when_clash s i f d) stop
+when_explained s i f d stop e h =
+    explained (consequent_clash s i d) (when_clash s i f d) stop
+    (λ p. first_in_part (task_in s) (round_in s) p (bound s.sheet) f (literals_of s d) (outcome_places i d) e) h

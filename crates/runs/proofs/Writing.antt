@@ -1,5 +1,5 @@
 -- What is written of an action, and the literals that it can bring about.
-use Rattle.std.proofs.Common.{◌≡◌, ℕ, ◌+◌, ◌<◌, Bool, true, false, cond, not, List, [], ◌∷◌, ◌++◌, map, length, get_or, take, set, Option, Some, IfOk, Ok, Err, Result, sym, refl, ap, ◌∙◌, arith, append_assoc, append-nil, length-append}
+use Rattle.std.proofs.Common.{◌≡◌, ℕ, ◌+◌, ◌<◌, Bool, true, false, cond, not, List, [], ◌∷◌, ◌++◌, map, length, get_or, take, set, Option, Some, MatchResult, Ok, Err, Result, sym, refl, ap, ◌∙◌, subst, arith, append_assoc, append-nil, length-append}
 use Rattle.std.specs.Bool.{beq}
 use Rattle.std.specs.Borrow.{Bor}
 use Rattle.std.specs.Option.{option_eq}
@@ -15,19 +15,24 @@ use Rattle.model.specs.Trees as tree
 use Rattle.model.specs.Trees.{Formula, Effect}
 use Rattle.adl.specs.declared.task.Task.{Task}
 use Rattle.adl.specs.Held.{tree_of}
+use Rattle.std.proofs.Math.Option.{none}
+use Rattle.book_of_task.specs.Places.{part_places, effect_place, clash_in_parts, clash_of}
 use Rattle.book_theorems.specs.Writes.{write_ground}
 use Rattle.runs.specs.declared.draft.Draft.{Draft}
 use Rattle.runs.specs.declared.draft.Stop.{Stop}
 use Rattle.runs.specs.declared.settling.Settling.{Settling}
 use Rattle.runs.specs.declared.sheet.Sheet.{Sheet}
 use Rattle.runs.specs.declared.verdict.Verdict.{Verdict}
-use Rattle.runs.specs.Clauses.{Explains, PartsWritten, parts_clash, EffectOf, task_in, round_in, parts_of}
+use Rattle.runs.specs.Clauses.{Explains, PartsWritten, effect_clash, EffectOf, task_in, round_in, parts_of}
 use Rattle.runs.specs.Left.{Left, FormulaOf, simplified_in}
-use Rattle.runs.specs.Settled.{round_of, truth_of}
+use Rattle.runs.specs.Extends.{Extends}
+use Rattle.runs.proofs.Extending.{extends_same, extends_after}
+use Rattle.runs.specs.Settled.{round_of, truth_of, body}
 use Rattle.runs.specs.Shown.{bound}
 use Rattle.runs.proofs.Fittings.{places_of}
 use Rattle.runs.proofs.Sheets.{formula_over, effect_over, holds_over}
-use Rattle.runs.proofs.Turns.{precondition_stands, effect_stands}
+use Rattle.runs.proofs.Turns.{operator_known, precondition_stands, effect_stands}
+use Rattle.runs.proofs.EffectPlaces.{effect_begins_at}
 
 -- whether FALSE is told of a formula
 pub told_false : (g : Ground) (u : Option Bool) → u ≡ truth_of g → option_eq beq u (Some false) ≡ is false g
@@ -49,10 +54,11 @@ pub reach_none : (t : tree.Task) (r : Round) (m : tree.Name) → true ≡ is fal
 reach_none t r m e = ap (λ b. cond (not b) (literals_where (possible t r) (effect_of t m)) []) e
 
 -- TRUE and FALSE are appended where a formula is one of them
-pub finished : {T E : Type 0} (r : Result T E) (g : Ground) (before xs : List Head) (u : Option Bool) (es : List Entry) → IfOk r (λ _. (g : Ground) (before : List Head) → Left g before xs u → es ≡ map coded before ++ write_ground g)
-    → Left g before xs u → IfOk r (λ _. es ≡ map coded before ++ write_ground g)
-finished (Ok x) g before xs u es h l = h g before l
-finished (Err x) g before xs u es h l = tt
+pub finished : {T E : Type 0} (r : Result T E) (g : Ground) (before xs ys : List Head) (u : Option Bool)
+    → MatchResult r (λ _. (g : Ground) (before : List Head) → Left g before xs u → map coded ys ≡ map coded before ++ write_ground g) (λ _. ys ≡ xs)
+    → Left g before xs u → MatchResult r (λ _. map coded ys ≡ map coded before ++ write_ground g) (λ _. Extends before ys)
+finished (Ok x) g before xs ys u h l = h g before l
+finished (Err x) g before xs ys u h l = extends_after (body g) l.entries (extends_same h)
 
 -- what simplifying the precondition of a name that fits and writing its effect come to, over a sheet that was made for its objects
 module _ (s : Sheet) (vs : Bor (List Verdict)) (k : Task) (m : tree.Name) (e : fits (tree_of k) m ≡ true) (t : s.task.now ≡ k) (d : s.depth ≡ length m.objects) (b : bound s ≡ m.objects) where
@@ -72,11 +78,18 @@ module _ (s : Sheet) (vs : Bor (List Verdict)) (k : Task) (m : tree.Name) (e : f
   effect_written before after n next h =
       holds_over s k m.objects t d b (λ t sheet. PartsWritten t (round_of vs.now) (parts t sheet (operator_of (tree_of k) m.operator).effect) before after n) (h _ _ (effect_over s k m.objects t d b (effect_stands k m e))).0
 
-  pub stop_explained : (stop : Stop)
-      → ((f : Effect) (j : ℕ) → EffectOf over (places_of k m.operator).effect f j → Explains (parts_clash (task_in over) (round_in over) (parts_of over f)) stop)
-      → Explains (parts_clash (tree_of k) (round_of vs.now) (effect_of (tree_of k) m)) stop
-  stop_explained stop h =
-      holds_over s k m.objects t d b (λ t sheet. Explains (parts_clash t (round_of vs.now) (parts t sheet (operator_of (tree_of k) m.operator).effect)) stop) (h _ _ (effect_over s k m.objects t d b (effect_stands k m e)))
+  pub stop_explained : (stop : Stop) → false ≡ is false (simplify (tree_of k) (round_of vs.now) m.objects (precondition_of (tree_of k) m))
+      → ((f : Effect) (j : ℕ) → EffectOf over (places_of k m.operator).effect f j → Explains (effect_clash over (places_of k m.operator).effect f) stop)
+      → Explains (clash_of (tree_of k) (round_of vs.now) m) stop
+  stop_explained stop q h =
+      let T = tree_of k in
+      let r = round_of vs.now in
+      let f = (operator_of T m.operator).effect in
+      let i = (places_of k m.operator).effect in
+      let found : Explains (clash_in_parts T r (effect_of T m) (part_places T i f)) stop =
+      holds_over s k m.objects t d b (λ t sheet. Explains (clash_in_parts t r (parts t sheet f) (part_places t i f)) stop) (h _ _ (effect_over s k m.objects t d b (effect_stands k m e))) in
+      subst (λ (b : Bool). Explains (cond (not b) (clash_in_parts T r (effect_of T m) (part_places T (effect_place T m.operator) f)) none) stop) q
+      (subst (λ n. Explains (clash_in_parts T r (effect_of T m) (part_places T n f)) stop) (effect_begins_at k m.operator (operator_known k m e)) found)
 
 -- what was appended goes away again
 pub taken_back : (before named after kept : List Head) (n : ℕ) (names ground : List Entry) → n ≡ length before → map coded named ≡ map coded before ++ names → map coded after ≡ map coded named ++ ground → kept ≡ take n after

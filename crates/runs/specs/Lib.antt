@@ -7,6 +7,7 @@ pub mod Runs
 pub mod Settled
 pub mod Closing
 pub mod Left
+pub mod Extends
 pub mod Clauses
 pub mod Chosen
 pub mod Touching

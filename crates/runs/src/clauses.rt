@@ -4,26 +4,19 @@ ghost use Rattle.model.specs.Lists.{gather};
 ghost use Rattle.model.specs.Meaning.{bind, ground, parts};
 ghost use Rattle.model.specs.Trees.{Change, Consequent, Effect, Formula, members};
 ghost use Rattle.adl.specs.Held.{held, tree_of};
-ghost use Rattle.book_of_task.specs.Clashes.{some_clashes};
-ghost use Rattle.runs.specs.Clauses.{Explains, LiteralsWritten, PartsWritten, parts_clash, EffectOf, EffectsOf, task_in, round_in, literals_of, all_literals_of, parts_of, all_parts_of, part_of};
+ghost use Rattle.book_of_task.specs.Places.{clash_in};
+ghost use Rattle.runs.specs.Clauses.{Explains, DraftExtends, LiteralsWritten, PartsWritten, consequent_clash, consequents_clash, when_clash, effect_clash, effects_clash, instances_clash, EffectOf, EffectsOf, task_in, round_in, literals_of, all_literals_of, parts_of, all_parts_of, part_of};
 ghost use Rattle.runs.specs.Effects.{ChangeIn, ConsequentIn, ConsequentsIn, EffectAt};
 ghost use Rattle.runs.specs.Left.{FormulaOf};
 ghost use Rattle.runs.specs.Shown.{bound};
 
+use crate::counts::sum_of_counts;
 use crate::draft::{Draft, Stop, note, write, write_fact};
 use crate::numbering::kind_at;
 use crate::settling::Settling;
 use crate::skip_effect::{skip_consequent, skip_effect};
 use crate::verdict::{Verdict, verdict_of};
 use table::Kind;
-
-// One count of clauses after another: a sum that 32 bits cannot hold is more than memory holds.
-fn sum(first: u32, second: u32) -> Result<u32, Stop>
-    ensures sum { IfOk result (λ n. n ≡ first + second) }
-    ensures memory { IfErr result (λ stop. stop ≡ Stop.NoMemory) }
-{
-    first.checked_add(second).ok_or(Stop::NoMemory)
-}
 
 impl Settling<'_, '_> {
     // Writes the literal of the atom at place `at`, plain or under NOT, if it is on a fact, and notes it; tells how many were written, and the place after it.
@@ -32,7 +25,8 @@ impl Settling<'_, '_> {
         ensures wrote { IfOk result (λ r. (c : Change) (j : ℕ) → ChangeIn self.now.sheet at c j →
             LiteralsWritten (round_in self.now) (ground (task_in self.now) (bound self.now.sheet) c ∷ []) draft.old draft.new r.0 × (r.1 ≡ j)) }
         ensures stopped { IfErr result (λ stop. (c : Change) (j : ℕ) → ChangeIn self.now.sheet at c j →
-            Explains (some_clashes (round_in self.now) (ground (task_in self.now) (bound self.now.sheet) c ∷ [])) stop) }
+            Explains (clash_in (round_in self.now) (ground (task_in self.now) (bound self.now.sheet) c ∷ []) (at ∷ [])) stop) }
+        ensures extends { IfErr result (λ _. DraftExtends draft.old draft.new) }
     {
         let (literal, next) = self.sheet.change(at);
         note(&mut draft.literals, literal)?;
@@ -58,7 +52,8 @@ impl Settling<'_, '_> {
         ensures wrote { IfOk result (λ r. (c : Consequent) (j : ℕ) → ConsequentIn self.now.sheet at c j →
             LiteralsWritten (round_in self.now) (literals_of self.now c) draft.old draft.new r.0 × (r.1 ≡ j)) }
         ensures stopped { IfErr result (λ stop. (c : Consequent) (j : ℕ) → ConsequentIn self.now.sheet at c j →
-            Explains (some_clashes (round_in self.now) (literals_of self.now c)) stop) }
+            Explains (consequent_clash self.now at c) stop) }
+        ensures extends { IfErr result (λ _. DraftExtends draft.old draft.new) }
     {
         let task = self.sheet.task;
         match kind_at(task, at) {
@@ -79,13 +74,14 @@ impl Settling<'_, '_> {
         ensures wrote { IfOk result (λ r. (cs : List Consequent) (j : ℕ) → ConsequentsIn self.now.sheet at count cs j →
             LiteralsWritten (round_in self.now) (all_literals_of self.now cs) draft.old draft.new r.0 × (r.1 ≡ j)) }
         ensures stopped { IfErr result (λ stop. (cs : List Consequent) (j : ℕ) → ConsequentsIn self.now.sheet at count cs j →
-            Explains (some_clashes (round_in self.now) (all_literals_of self.now cs)) stop) }
+            Explains (consequents_clash self.now at cs) stop) }
+        ensures extends { IfErr result (λ _. DraftExtends draft.old draft.new) }
     {
         let mut next = at;
         let mut written = 0;
         for _k in 0..count {
             let (more, end) = self.write_consequent(next, draft)?;
-            written = sum(written, more)?;
+            written = sum_of_counts(written, more)?;
             next = end;
         }
         Ok((written, next))
@@ -98,7 +94,8 @@ impl Settling<'_, '_> {
         ensures wrote { IfOk result (λ r. (f : Formula) (c : Consequent) (i j : ℕ) → FormulaOf self.now at f i → ConsequentIn self.now.sheet i c j →
             PartsWritten (task_in self.now) (round_in self.now) (part_of self.now f c ∷ []) draft.old draft.new r.0 × (r.1 ≡ j)) }
         ensures stopped { IfErr result (λ stop. (f : Formula) (c : Consequent) (i j : ℕ) → FormulaOf self.now at f i → ConsequentIn self.now.sheet i c j →
-            Explains (parts_clash (task_in self.now) (round_in self.now) (part_of self.now f c ∷ [])) stop) }
+            Explains (when_clash self.now i f c) stop) }
+        ensures extends { IfErr result (λ _. DraftExtends draft.old draft.new) }
     {
         let start = draft.entries.len();
         write(&mut draft.entries, Kind::When, 0)?;
@@ -133,7 +130,8 @@ impl Settling<'_, '_> {
         ensures wrote { IfOk result (λ r. (e : Effect) (j : ℕ) → EffectOf self.now at e j →
             PartsWritten (task_in self.now) (round_in self.now) (parts_of self.now e) draft.old draft.new r.0 × (r.1 ≡ j)) }
         ensures stopped { IfErr result (λ stop. (e : Effect) (j : ℕ) → EffectOf self.now at e j →
-            Explains (parts_clash (task_in self.now) (round_in self.now) (parts_of self.now e)) stop) }
+            Explains (effect_clash self.now at e) stop) }
+        ensures extends { IfErr result (λ _. DraftExtends draft.old draft.new) }
     {
         let task = self.sheet.task;
         let operand = task.table.entries.operands[at];
@@ -155,13 +153,14 @@ impl Settling<'_, '_> {
         ensures wrote { IfOk result (λ r. (es : List Effect) (j : ℕ) → EffectsOf self.now at count es j →
             PartsWritten (task_in self.now) (round_in self.now) (all_parts_of self.now es) draft.old draft.new r.0 × (r.1 ≡ j)) }
         ensures stopped { IfErr result (λ stop. (es : List Effect) (j : ℕ) → EffectsOf self.now at count es j →
-            Explains (parts_clash (task_in self.now) (round_in self.now) (all_parts_of self.now es)) stop) }
+            Explains (effects_clash self.now at es) stop) }
+        ensures extends { IfErr result (λ _. DraftExtends draft.old draft.new) }
     {
         let mut next = at;
         let mut written = 0;
         for _k in 0..count {
             let (more, end) = self.write_effect(next, draft)?;
-            written = sum(written, more)?;
+            written = sum_of_counts(written, more)?;
             next = end;
         }
         Ok((written, next))
@@ -176,7 +175,8 @@ impl Settling<'_, '_> {
         ensures wrote { IfOk result (λ r. (e : Effect) (j : ℕ) → EffectAt (held self.now.sheet.task.now) (self.now.sheet.depth + 1) at e j →
             PartsWritten (task_in self.now) (round_in self.now) (gather (λ o. parts (task_in self.now) (bind (bound self.now.sheet) o) e) (members (task_in self.now) type_number)) draft.old draft.new r) }
         ensures stopped { IfErr result (λ stop. (e : Effect) (j : ℕ) → EffectAt (held self.now.sheet.task.now) (self.now.sheet.depth + 1) at e j →
-            Explains (parts_clash (task_in self.now) (round_in self.now) (gather (λ o. parts (task_in self.now) (bind (bound self.now.sheet) o) e) (members (task_in self.now) type_number))) stop) }
+            Explains (instances_clash self.now at e (members (task_in self.now) type_number)) stop) }
+        ensures extends { IfErr result (λ _. DraftExtends draft.old draft.new) }
     {
         let task = self.sheet.task;
         let members = task.table.entries.operands[type_number as usize];
@@ -185,7 +185,7 @@ impl Settling<'_, '_> {
             if (members >> o) % 2 == 1 {
                 let instance = self.with(o);
                 let (more, _) = instance.write_effect(at, draft)?;
-                written = sum(written, more)?;
+                written = sum_of_counts(written, more)?;
             }
         }
         Ok(written)

@@ -1,7 +1,8 @@
 // What is written of an action before it goes into a book, and why an action could not be written.
-ghost use Rattle.std.specs.Prelude.{◌≡◌, ◌++◌, ◌∷◌, [], map, IfOk};
+ghost use Rattle.std.specs.Prelude.{◌≡◌, ◌++◌, ◌∷◌, [], map, MatchResult};
 ghost use Rattle.table.specs.Entries.{coded};
 ghost use Rattle.book_theorems.specs.Writes.{write_literal};
+ghost use Rattle.runs.specs.Extends.{Extends};
 
 use fault::{Cause, Fault, Layer};
 use rising::Literal;
@@ -56,7 +57,7 @@ impl From<AllocError> for Stop {
 
 // Appends an entry.
 pub(crate) fn write(out: &mut Vec<Head>, kind: Kind, operand: u32) -> Result<(), AllocError>
-    ensures { IfOk result (λ _. out.new.items ≡ out.old.items ++ (record { kind = kind; operand = operand } ∷ [])) }
+    ensures { MatchResult result (λ _. out.new.items ≡ out.old.items ++ (record { kind = kind; operand = operand } ∷ [])) (λ _. out.new.items ≡ out.old.items) }
 {
     out.push(Head { kind, operand })?;
     Ok(())
@@ -79,7 +80,7 @@ impl From<Stop> for Fault {
 
 // Appends a literal on a fact: FACT, or NOT and FACT.
 pub(crate) fn write_fact(out: &mut Vec<Head>, adds: bool, fact: u32) -> Result<(), AllocError>
-    ensures { IfOk result (λ _. map coded out.new.items ≡ map coded out.old.items ++ write_literal (record { adds = adds; atom = fact })) }
+    ensures { MatchResult result (λ _. map coded out.new.items ≡ map coded out.old.items ++ write_literal (record { adds = adds; atom = fact })) (λ _. Extends out.old.items out.new.items) }
 {
     if !adds {
         write(out, Kind::Not, 0)?;
@@ -89,7 +90,7 @@ pub(crate) fn write_fact(out: &mut Vec<Head>, adds: bool, fact: u32) -> Result<(
 
 // Appends a literal, as the task has it.
 pub(crate) fn note(literals: &mut Vec<Literal>, literal: Literal) -> Result<(), AllocError>
-    ensures { IfOk result (λ _. literals.new.items ≡ literals.old.items ++ (literal ∷ [])) }
+    ensures { MatchResult result (λ _. literals.new.items ≡ literals.old.items ++ (literal ∷ [])) (λ _. literals.new.items ≡ literals.old.items) }
 {
     literals.push(literal)?;
     Ok(())

@@ -5,6 +5,7 @@ mod action;
 mod choices;
 mod clauses;
 mod closing;
+mod counts;
 mod draft;
 mod facts;
 mod fitting;
@@ -26,6 +27,7 @@ mod window;
 
 pub use action::write_goal;
 pub use choices::list_choices;
+pub use counts::sum_of_counts;
 pub use draft::{Draft, Stop};
 pub use fitting_name::Fitting;
 pub use protocol::{Answer, Call, Name};

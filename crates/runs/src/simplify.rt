@@ -1,6 +1,5 @@
 // Simplifying formulas by what is settled of the atoms, and writing what is left of them.
-ghost use Rattle.std.specs.Prelude.{◌≡◌, ℕ, ◌+◌, ◌<◌, ◌≤◌, ◌++◌, List, map, IfOk};
-ghost use Rattle.table.specs.Entries.{coded};
+ghost use Rattle.std.specs.Prelude.{◌≡◌, ℕ, ◌+◌, ◌<◌, ◌≤◌, List, MatchResult};
 ghost use Rattle.model.specs.Meaning.{bind};
 ghost use Rattle.model.specs.Trees.{Formula, members, any};
 ghost use Rattle.model.specs.Settling.{settle, opposite, combine, cons, nil, instances, simplify as simplified, simplify_all as all_simplified};
@@ -10,9 +9,11 @@ ghost use Rattle.adl.specs.Reads.{formulas_of};
 ghost use Rattle.runs.specs.Standing.{FormulaAt};
 ghost use Rattle.runs.specs.Shown.{bound};
 ghost use Rattle.runs.specs.Settled.{meaning, fact_in, round_of};
+ghost use Rattle.runs.specs.Extends.{Extends};
 ghost use Rattle.runs.specs.Left.{Left, FormulaOf, FormulasOf, simplified_in, all_simplified_in};
 
 use crate::closing::{close, counted, junction_kind, turn};
+use crate::draft::write;
 use crate::numbering::kind_at;
 use crate::settling::Settling;
 use crate::skip::{skip, skip_all};
@@ -23,15 +24,12 @@ use table::{Head, Kind};
 
 // Appends what is left of an atom with this verdict.
 fn write_atom(verdict: Verdict, out: &mut Vec<Head>) -> Result<Option<bool>, AllocError>
-    ensures { IfOk result (λ r. Left (settle (meaning verdict) (fact_in verdict)) out.old.items out.new.items r) }
+    ensures { MatchResult result (λ r. Left (settle (meaning verdict) (fact_in verdict)) out.old.items out.new.items r) (λ _. out.new.items ≡ out.old.items) }
 {
     match verdict {
         Verdict::Always(truth) => Ok(Some(truth)),
         Verdict::Fact(fact) => {
-            out.push(Head {
-                kind: Kind::Fact,
-                operand: fact,
-            })?;
+            write(out, Kind::Fact, fact)?;
             Ok(None)
         }
     }
@@ -46,7 +44,9 @@ impl Settling<'_, '_> {
         out: &mut Vec<Head>,
     ) -> Result<(Option<bool>, usize), AllocError>
         requires { (f : Formula) × (j : ℕ) × FormulaOf self.now at f j }
-        ensures { IfOk result (λ r. (f : Formula) (j : ℕ) → FormulaOf self.now at f j → Left (simplified_in self.now f) out.old.items out.new.items r.0 × (r.1 ≡ j)) }
+        ensures { MatchResult result
+            (λ r. (f : Formula) (j : ℕ) → FormulaOf self.now at f j → Left (simplified_in self.now f) out.old.items out.new.items r.0 × (r.1 ≡ j))
+            (λ _. Extends out.old.items out.new.items) }
     {
         let task = self.sheet.task;
         let operand = task.table.entries.operands[at];
@@ -88,13 +88,12 @@ impl Settling<'_, '_> {
         out: &mut Vec<Head>,
     ) -> Result<(Option<bool>, usize), AllocError>
         requires { (f : Formula) × (j : ℕ) × FormulaOf self.now at f j }
-        ensures { IfOk result (λ r. (f : Formula) (j : ℕ) → FormulaOf self.now at f j → Left (opposite (simplified_in self.now f)) out.old.items out.new.items r.0 × (r.1 ≡ j)) }
+        ensures { MatchResult result
+            (λ r. (f : Formula) (j : ℕ) → FormulaOf self.now at f j → Left (opposite (simplified_in self.now f)) out.old.items out.new.items r.0 × (r.1 ≡ j))
+            (λ _. Extends out.old.items out.new.items) }
     {
         let start = out.len();
-        out.push(Head {
-            kind: Kind::Not,
-            operand: 0,
-        })?;
+        write(out, Kind::Not, 0)?;
         let (truth, next) = self.simplify(at, out)?;
         Ok((turn(start, truth, out), next))
     }
@@ -109,14 +108,12 @@ impl Settling<'_, '_> {
         out: &mut Vec<Head>,
     ) -> Result<(Option<bool>, usize), AllocError>
         requires { (fs : List Formula) × (j : ℕ) × FormulasOf self.now at count fs j }
-        ensures { IfOk result (λ r. (fs : List Formula) (j : ℕ) → FormulasOf self.now at count fs j →
-            Left (combine (joining junction) (all_simplified_in self.now fs)) out.old.items out.new.items r.0 × (r.1 ≡ j)) }
+        ensures { MatchResult result
+            (λ r. (fs : List Formula) (j : ℕ) → FormulasOf self.now at count fs j → Left (combine (joining junction) (all_simplified_in self.now fs)) out.old.items out.new.items r.0 × (r.1 ≡ j))
+            (λ _. Extends out.old.items out.new.items) }
     {
         let start = out.len();
-        out.push(Head {
-            kind: junction_kind(junction),
-            operand: 0,
-        })?;
+        write(out, junction_kind(junction), 0)?;
         let decisive = Some(!junction.of_none());
         let mut next = at;
         let mut kept = 0;
@@ -140,14 +137,13 @@ impl Settling<'_, '_> {
         out: &mut Vec<Head>,
     ) -> Result<(Option<bool>, usize), AllocError>
         requires { (f g : Formula) × (i j : ℕ) × FormulaOf self.now at f i × FormulaOf self.now i g j }
-        ensures { IfOk result (λ r. (f g : Formula) (i j : ℕ) → FormulaOf self.now at f i → FormulaOf self.now i g j →
-            Left (combine any (cons (opposite (simplified_in self.now f)) (cons (simplified_in self.now g) nil))) out.old.items out.new.items r.0 × (r.1 ≡ j)) }
+        ensures { MatchResult result
+            (λ r. (f g : Formula) (i j : ℕ) → FormulaOf self.now at f i → FormulaOf self.now i g j →
+            Left (combine any (cons (opposite (simplified_in self.now f)) (cons (simplified_in self.now g) nil))) out.old.items out.new.items r.0 × (r.1 ≡ j))
+            (λ _. Extends out.old.items out.new.items) }
     {
         let start = out.len();
-        out.push(Head {
-            kind: Kind::Or,
-            operand: 0,
-        })?;
+        write(out, Kind::Or, 0)?;
         let (first, middle) = self.simplify_negation(at, out)?;
         if first == Some(true) {
             out.truncate(start);
@@ -174,14 +170,13 @@ impl Settling<'_, '_> {
         requires room { self.now.sheet.depth < 7 }
         requires known { type_number < self.now.sheet.task.now.table.sizes.types }
         requires stands { (f : Formula) × (j : ℕ) × FormulaAt (held self.now.sheet.task.now) (self.now.sheet.depth + 1) at f j }
-        ensures { IfOk result (λ r. (f : Formula) (j : ℕ) → FormulaAt (held self.now.sheet.task.now) (self.now.sheet.depth + 1) at f j →
-            Left (combine (joining junction) (instances (λ o. simplified (tree_of self.now.sheet.task.now) (round_of self.now.verdicts.now) (bind (bound self.now.sheet) o) f) (members (tree_of self.now.sheet.task.now) type_number))) out.old.items out.new.items r) }
+        ensures { MatchResult result
+            (λ r. (f : Formula) (j : ℕ) → FormulaAt (held self.now.sheet.task.now) (self.now.sheet.depth + 1) at f j →
+            Left (combine (joining junction) (instances (λ o. simplified (tree_of self.now.sheet.task.now) (round_of self.now.verdicts.now) (bind (bound self.now.sheet) o) f) (members (tree_of self.now.sheet.task.now) type_number))) out.old.items out.new.items r)
+            (λ _. Extends out.old.items out.new.items) }
     {
         let start = out.len();
-        out.push(Head {
-            kind: junction_kind(junction),
-            operand: 0,
-        })?;
+        write(out, junction_kind(junction), 0)?;
         let decisive = Some(!junction.of_none());
         let task = self.sheet.task;
         let members = task.table.entries.operands[type_number as usize];

@@ -95,8 +95,8 @@ impl Touched {
 
     // What the operators of a task touch.
     pub fn by(task: &Task) -> Touched
-        ensures added { (p : ℕ) → p < task.now.table.sizes.predicates → slice_index_or result.added p false ≡ not (inertia (tree_of task.now) true p) }
-        ensures deleted { (p : ℕ) → p < task.now.table.sizes.predicates → slice_index_or result.deleted p false ≡ not (inertia (tree_of task.now) false p) }
+        ensures added { (p : ℕ) → p < 32 → slice_index_or result.added p false ≡ not (inertia (tree_of task.now) true p) }
+        ensures deleted { (p : ℕ) → p < 32 → slice_index_or result.deleted p false ≡ not (inertia (tree_of task.now) false p) }
     {
         let mut touched = Touched {
             added: [false; 32],

@@ -34,7 +34,7 @@ stands StartsFalse = refl
 stands Always = refl
 
 -- kinds with the same code are the same
-same_code : (a b : Kind) → code_of a ≡ code_of b → a ≡ b
+pub same_code : (a b : Kind) → code_of a ≡ code_of b → a ≡ b
 same_code a b e = sym (stands a) ∙ ap (λ n. get_or kinds n True) e ∙ stands b
 
 -- different kinds have different codes

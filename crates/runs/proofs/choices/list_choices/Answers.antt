@@ -26,12 +26,14 @@ extend-requires-clause-parameters c = (_, _, (operator_begun c.args.task.now c.a
 pub extend-requires-clause-few : goal.extend-requires-clause-few
 extend-requires-clause-few c = omega (arith, (operator_begun c.args.task.now c.args.operator c.if-operator-task.false).1.few)
 
-pub returns : goal.returns
-returns c =
+pub returns-in-Ok-clause-count : goal.returns-in-Ok-clause-count
+returns-in-Ok-clause-count c h = (operator_begun c.args.task.now c.args.operator h).1.count
+
+pub returns-in-Ok-clause-few : goal.returns-in-Ok-clause-few
+returns-in-Ok-clause-few c = omega (arith, (operator_begun c.args.task.now c.args.operator c.if-operator-task.false).1.few)
+
+pub returns-in-Ok-clause-lists : goal.returns-in-Ok-clause-lists
+returns-in-Ok-clause-lists c h =
     let k = c.args.task.now in
-    record {
-      few = omega (arith, (operator_begun k c.args.operator c.if-operator-task.false).1.few);
-      lists = λ h.
-          let r = (operator_begun k c.args.operator h).1 in
-          all_chosen (tree_of k) c.args.operator _ _ _ c.extend.new.out.items (omega arith) c.clear.ensures.items (c.in_ok-extend.ensures _ _ r.parameters);
-    }
+    let r = (operator_begun k c.args.operator h).1 in
+    all_chosen (tree_of k) c.args.operator _ _ _ c.extend.new.out.items (omega arith) c.clear.ensures.items (c.in-Ok.ensures.lists _ _ r.parameters)

@@ -1,11 +1,12 @@
 use Rattle.std.proofs.Common.{◌≡◌, ℕ, Bool, true, false, cond, List, [], ◌∷◌, ◌++◌, map, Vec, Global, refl, sym, ap, ◌∙◌}
 use Rattle.std.proofs.lemmas.List.{append-nil, append_assoc, map-append}
-use Rattle.std.proofs.lemmas.Result.{IfOk-weaker}
+use Rattle.std.proofs.lemmas.Result.{MatchResult-weaker}
 use Rattle.table.specs.declared.arrays.Head.{Head}
 use Rattle.table.specs.declared.kind.Kind.TheVariants.{Not, Fact}
 use Rattle.table.specs.Entries.{coded}
 use Rattle.table.specs.Reading.{entry}
 use Rattle.book_theorems.specs.Writes.{write_literal}
+use Rattle.runs.proofs.Extending.{extends_by}
 use Rattle.runs.proofs.draft.write_fact.Goals as goal
 use Rattle.runs.proofs.draft.write_fact.Goals.{then-not-adds+in_ok-write, else-not-adds}
 
@@ -36,5 +37,5 @@ returns c =
       | then-not-adds+in_ok-write w ↦ ap (λ (v : Vec Head Global). v.items) w.out-is ∙ w.in_ok-write.ensures ∙ ap (λ a. es ++ before_fact a) (sym w.if-not-adds.true)
       | else-not-adds w ↦ ap (λ (v : Vec Head Global). v.items) w.out-is ∙ sym (append-nil es) ∙ ap (λ a. es ++ before_fact a) (sym w.if-not-adds.false)
     ] in
-    IfOk-weaker c.write-2.result (λ _. gs ≡ fs ++ (head ∷ [])) (λ _. map coded gs ≡ map coded es ++ write_literal (record { adds = b; atom = c.args.fact }))
-    (λ _ q. fact_entries b c.args.fact es fs gs first q) c.write-2.ensures
+    MatchResult-weaker c.write-2.result c.write-2.ensures (λ _ q. fact_entries b c.args.fact es fs gs first q)
+    (λ _ q. extends_by _ (ap (map coded) q ∙ ap (map coded) first ∙ map-append coded es (before_fact b)))

@@ -1,6 +1,6 @@
 use Rattle.std.proofs.Common.{ap₂, ◌≡◌, ℕ, ◌+◌, ◌-◌, ◌<◌, ◌≤◌, ◌++◌, Bool, true, false, not, cond, eqb, List, [], ◌∷◌, length, get_or, Option, Some, None, is_some, vec_items, sym, refl, ap, ◌∙◌, subst, arith}
 use Rattle.std.proofs.lemmas.Bool.{eq-eqb, ne_eqb}
-use Rattle.std.proofs.lemmas.Result.{IfOk-weaker}
+use Rattle.std.proofs.lemmas.Result.{MatchResult-weaker, err_from_is_err_and}
 use mathlib.Core.Bool.{beq}
 use Rattle.std.specs.Option.{option_eq}
 use Rattle.table.specs.declared.arrays.Head.{Head}
@@ -16,6 +16,7 @@ use Rattle.runs.specs.Standing.{FormulaAt}
 use Rattle.runs.specs.Settled.{at, meaning, fact_in}
 use Rattle.runs.specs.Left.{Left, FormulaOf, FormulasOf, simplified_in, all_simplified_in}
 use Rattle.runs.proofs.Shapes.{begins, no_formula, formula_kind, ends_after, at_true, at_false, at_atom, at_equal, at_not, at_and, at_or, at_imply, at_forall, at_exists, after_terms, first_formula}
+use Rattle.runs.proofs.Extending.{extends_after, extends_pushed}
 use Rattle.runs.proofs.Instances.{instance_in, instances_in, instances_more, instances_same, instances_none, all_members, With, instance_stands, instance_is}
 use Rattle.runs.proofs.Parts.{known_left, Kept, kept_none, kept_room, kept_same, kept_decided, kept_counted, closed, turned, turned_room}
 use Rattle.runs.proofs.settling.Settling.+simplifying.Goals as goal
@@ -160,39 +161,39 @@ simplify-returns-in-Equal t c = λ f j s.
 
 pub simplify-returns-in-Not : goal.simplify-returns-in-Not
 simplify-returns-in-Not t c =
-    IfOk-weaker c.simplify_negation.result _ _
+    MatchResult-weaker c.simplify_negation.result c.simplify_negation.ensures
     (λ r h. λ f j s.
     let x = at_not s c.in-Not.ensures in
     let w = h x.0 j x.2 in
     (from c.args.self.now x.1 w.0, w.1))
-    c.simplify_negation.ensures
+    (λ _ h. h)
 
 pub simplify-returns-in-And : goal.simplify-returns-in-And
 simplify-returns-in-And t c =
-    IfOk-weaker c.simplify_all.result _ _
+    MatchResult-weaker c.simplify_all.result c.simplify_all.ensures
     (λ r h. λ f j s.
     let x = at_and s c.in-And.ensures in
     let w = h x.0 j x.2 in
     (from c.args.self.now x.1 w.0, w.1))
-    c.simplify_all.ensures
+    (λ _ h. h)
 
 pub simplify-returns-in-Or : goal.simplify-returns-in-Or
 simplify-returns-in-Or t c =
-    IfOk-weaker c.simplify_all-in-Or.result _ _
+    MatchResult-weaker c.simplify_all-in-Or.result c.simplify_all-in-Or.ensures
     (λ r h. λ f j s.
     let x = at_or s c.in-Or.ensures in
     let w = h x.0 j x.2 in
     (from c.args.self.now x.1 w.0, w.1))
-    c.simplify_all-in-Or.ensures
+    (λ _ h. h)
 
 pub simplify-returns-in-Imply : goal.simplify-returns-in-Imply
 simplify-returns-in-Imply t c =
-    IfOk-weaker c.simplify_implication.result _ _
+    MatchResult-weaker c.simplify_implication.result c.simplify_implication.ensures
     (λ r h. λ f j s.
     let x = at_imply s c.in-Imply.ensures in
     let w = h x.0 x.1 x.2 j x.4 x.5 in
     (from c.args.self.now x.3 w.0, w.1))
-    c.simplify_implication.ensures
+    (λ _ h. h)
 
 pub simplify-returns-in_ok-every-in-Forall : goal.simplify-returns-in_ok-every-in-Forall
 simplify-returns-in_ok-every-in-Forall t c = λ f j s.
@@ -241,7 +242,7 @@ counts_one (Some b) = omega arith
 pub simplify_all-loop-k-init : goal.simplify_all-loop-k-init
 simplify_all-loop-k-init t c =
     let n : c.args.count - 0 ≡ c.args.count = omega arith in
-    record { onward = omega arith; few = omega arith; kept = λ fs j s. (fs, rw n s, kept_none _ c.in_ok-push.ensures.items) }
+    record { onward = omega arith; few = omega arith; kept = λ fs j s. (fs, rw n s, kept_none _ c.in_ok-write.ensures) }
 
 pub simplify_all-simplify-requires : goal.simplify_all-simplify-requires
 simplify_all-simplify-requires t c =
@@ -265,6 +266,12 @@ simplify_all-returns-then-eq t c = λ fs j s.
       kept_decided w.2 x.both x.part (ap decisive c.of_none.ensures) c.if-eq.ensures long c.truncate.ensures.items,
       c.skip_all.ensures c.args.self.now.sheet.depth x.others j x.stands,
     )
+
+pub simplify_all-returns-in_err-part : goal.simplify_all-returns-in_err-part
+simplify_all-returns-in_err-part t c =
+    let r = c.requires in
+    let p = err_from_is_err_and c.from_residual-in_err-part.result c.from_residual-in_err-part.ensures.1 in
+    rw p.1 (extends_after _ (c.loop-k.invariant.kept r.0 r.1 r.2).2.entries c.in_err-part.ensures)
 
 pub simplify_all-loop-k-preserved : goal.simplify_all-loop-k-preserved
 simplify_all-loop-k-preserved t c =
@@ -301,7 +308,7 @@ instance : (a b : Settling) {o i j k : ℕ} {mid after : List Head} {told : Opti
 instance a b {o} {i} {j} {k} {mid} {after} {told} w d f s = subst (λ g. Left g mid after told) (instance_is w f) (d f j (instance_stands w f s)).0
 
 pub simplify_each-loop-o-init : goal.simplify_each-loop-o-init
-simplify_each-loop-o-init t c = record { few = omega arith; kept = λ f j s. kept_none _ c.in_ok-push.ensures.items }
+simplify_each-loop-o-init t c = record { few = omega arith; kept = λ f j s. kept_none _ c.in_ok-write.ensures }
 
 pub simplify_each-returns-then-eq : goal.simplify_each-returns-then-eq
 simplify_each-returns-then-eq t c = λ f j s.
@@ -313,6 +320,12 @@ simplify_each-returns-then-eq t c = λ f j s.
     let long : c.len-start.result ≡ length c.args.out.now.items = omega (arith, c.len-start.ensures) in
     subst (λ os. Left (combine (joining c.args.junction) (instances_in A f os)) c.args.out.now.items c.truncate.new.self.items c.in_ok-truth.truth) (all_members A c.args.type_number c.requires.known)
     (kept_decided (c.loop-o.invariant.kept f j s) more l (ap decisive c.of_none.ensures) c.if-eq.ensures long c.truncate.ensures.items)
+
+pub simplify_each-returns-in_err-truth : goal.simplify_each-returns-in_err-truth
+simplify_each-returns-in_err-truth t c =
+    let r = c.requires.stands in
+    let p = err_from_is_err_and c.from_residual-in_err-truth.result c.from_residual-in_err-truth.ensures.1 in
+    rw p.1 (extends_after _ (c.loop-o.invariant.kept r.0 r.1 r.2).entries c.in_err-truth.ensures)
 
 pub simplify_each-loop-o-preserved : goal.simplify_each-loop-o-preserved
 simplify_each-loop-o-preserved t c =
@@ -374,7 +387,7 @@ simplify_implication-returns-then-eq t c = λ f g i j s u.
     let long : c.len-start.result ≡ length c.args.out.now.items = omega (arith, c.len-start.ensures) in
     let A = c.args.self.now in
     let a = c.in_ok-first.ensures f i s in
-    let k : Kept any (both A f g) (both A f g) c.args.out.now.items c.push.new.self.items 0 = kept_none _ c.in_ok-push.ensures.items in
+    let k : Kept any (both A f g) (both A f g) c.args.out.now.items c.write.new.out.items 0 = kept_none _ c.in_ok-write.ensures in
     (kept_decided k refl a.0 refl c.if-eq.ensures long c.truncate.ensures.items, c.skip.ensures A.sheet.depth g j (subst (λ n. FormulaOf A n g j) (sym a.1) u))
 
 pub simplify_implication-simplify-requires : goal.simplify_implication-simplify-requires
@@ -383,13 +396,19 @@ simplify_implication-simplify-requires t c =
     let e = (c.in_ok-first.ensures p.0 p.2 p.4).1 in
     (omega (arith, ends_after p.4, e), (p.1, p.3, subst (λ n. FormulaOf c.args.self.now n p.1 p.3) (sym e) p.5))
 
+pub simplify_implication-returns-in_err-second : goal.simplify_implication-returns-in_err-second
+simplify_implication-returns-in_err-second t c =
+    let r = c.requires in
+    let p = err_from_is_err_and c.from_residual-in_err-second.result c.from_residual-in_err-second.ensures.1 in
+    rw p.1 (extends_pushed _ c.in_ok-write.ensures (extends_after _ (c.in_ok-first.ensures r.0 r.2 r.4).0.entries c.in_err-second.ensures))
+
 pub simplify_implication-returns-then-eq-2 : goal.simplify_implication-returns-then-eq-2
 simplify_implication-returns-then-eq-2 t c = λ f g i j s u.
     let long : c.len-start.result ≡ length c.args.out.now.items = omega (arith, c.len-start.ensures) in
     let A = c.args.self.now in
     let a = c.in_ok-first.ensures f i s in
     let b = c.in_ok-second.ensures g j (subst (λ n. FormulaOf A n g j) (sym a.1) u) in
-    let k = first_kept A f g _ c.in_ok-push.ensures.items a.0 c.if-eq.ensures refl in
+    let k = first_kept A f g _ c.in_ok-write.ensures a.0 c.if-eq.ensures refl in
     (kept_decided k refl b.0 refl c.if-eq-2.ensures long c.truncate-then-eq-2.ensures.items, b.1)
 
 pub simplify_implication-close-requires : goal.simplify_implication-close-requires
@@ -398,7 +417,7 @@ simplify_implication-close-requires t c =
     let p = c.requires in
     let a = c.in_ok-first.ensures p.0 p.2 p.4 in
     let b = c.in_ok-second.ensures p.1 p.3 (subst (λ n. FormulaOf A n p.1 p.3) (sym a.1) p.5) in
-    let k = both_kept A p.0 p.1 _ c.in_ok-push.ensures.items a.0 c.if-eq.ensures c.counted.ensures b.0 c.if-eq-2.ensures c.counted-2.ensures in
+    let k = both_kept A p.0 p.1 _ c.in_ok-write.ensures a.0 c.if-eq.ensures c.counted.ensures b.0 c.if-eq-2.ensures c.counted-2.ensures in
     omega (arith, kept_room k, c.len-start.ensures)
 
 pub simplify_implication-returns : goal.simplify_implication-returns
@@ -407,16 +426,16 @@ simplify_implication-returns t c = λ f g i j s u.
     let A = c.args.self.now in
     let a = c.in_ok-first.ensures f i s in
     let b = c.in_ok-second.ensures g j (subst (λ n. FormulaOf A n g j) (sym a.1) u) in
-    let k = both_kept A f g _ c.in_ok-push.ensures.items a.0 c.if-eq.ensures c.counted.ensures b.0 c.if-eq-2.ensures c.counted-2.ensures in
+    let k = both_kept A f g _ c.in_ok-write.ensures a.0 c.if-eq.ensures c.counted.ensures b.0 c.if-eq-2.ensures c.counted-2.ensures in
     (closed k long refl c.close.ensures.truth c.close.ensures.entries, b.1)
 
 pub simplify_negation-turn-requires : goal.simplify_negation-turn-requires
 simplify_negation-turn-requires t c =
     let p = c.requires in
-    omega (arith, c.len-start.ensures, turned_room _ _ c.in_ok-push.ensures.items (c.in_ok-truth.ensures p.0 p.1 p.2).0)
+    omega (arith, c.len-start.ensures, turned_room _ _ c.in_ok-write.ensures (c.in_ok-truth.ensures p.0 p.1 p.2).0)
 
 pub simplify_negation-returns : goal.simplify_negation-returns
 simplify_negation-returns t c = λ f j s.
     let w = c.in_ok-truth.ensures f j s in
     let long : c.len-start.result ≡ length c.args.out.now.items = omega (arith, c.len-start.ensures) in
-    (turned _ _ c.in_ok-push.ensures.items w.0 long refl c.turn.ensures.truth c.turn.ensures.entries, w.1)
+    (turned _ _ c.in_ok-write.ensures w.0 long refl c.turn.ensures.truth c.turn.ensures.entries, w.1)

@@ -1,5 +1,5 @@
 use Rattle.table.proofs.Lengths.{operands_long}
-use Rattle.std.proofs.Common.{◌≡◌, ℕ, ◌+◌, ◌-◌, List, [], ◌∷◌, ◌++◌, get_or, true, refl, sym, ap, ◌∙◌, subst, arith, eq-eqb}
+use Rattle.std.proofs.Common.{◌≡◌, ℕ, ◌+◌, ◌-◌, List, [], ◌∷◌, ◌++◌, length, get_or, true, refl, sym, ap, ◌∙◌, subst, arith, eq-eqb}
 use Rattle.std.proofs.lemmas.Bool.{ne_eqb}
 use Rattle.std.proofs.lemmas.List.{append-nil}
 use Rattle.std.proofs.lemmas.Result.{IfOk-weaker, IfErr-weaker, err_from_is_err_and}
@@ -14,12 +14,17 @@ use Rattle.adl_theorems.proofs.Standing.{declarations_inside}
 use Rattle.runs.specs.declared.draft.Draft.{Draft}
 use Rattle.runs.specs.declared.draft.Stop.{Stop}
 use Rattle.runs.specs.declared.settling.Settling.{Settling}
-use Rattle.book_of_task.specs.Clashes.{some_clashes}
-use Rattle.runs.specs.Clauses.{Explains, LiteralsWritten, PartsWritten, parts_clash, EffectOf, EffectsOf, task_in, round_in, parts_of, all_parts_of}
+use Rattle.adl.specs.Reads.{effects_of}
+use Rattle.adl_theorems.specs.Writes.{write_effect}
+use Rattle.book_of_task.specs.Places.{part_places, all_part_places, clash_in, clash_in_parts}
+use Rattle.runs.specs.Clauses.{Explains, LiteralsWritten, PartsWritten, when_clash, effect_clash, effects_clash, instances_clash, EffectOf, EffectsOf, task_in, round_in, parts_of, all_parts_of}
 use Rattle.runs.specs.Effects.{ChangeIn}
 use Rattle.runs.specs.Shown.{bound}
-use Rattle.runs.proofs.Appending.{longer, no_parts, parts_after, parts_as, clash_inside, one_part, freed_part, explained, Turned, wrote_as, stopped_as}
-use Rattle.runs.proofs.Whens.{WhenPromised, WhenExplained, when_clashes}
+use Rattle.runs.proofs.Appending.{longer, no_parts, parts_after, parts_as, one_part, freed_part, explained, Turned, wrote_as, stopped_as}
+use Rattle.runs.proofs.Whens.{WhenPromised, WhenExplained}
+use Rattle.runs.proofs.Extending.{draft_after, draft_so}
+use Rattle.runs.proofs.Clashing.{first_part_inside, first_in_part, parts_placed, as_many, as_many_more}
+use Rattle.runs.proofs.EffectPlaces.{formula_ends, effect_ends}
 use Rattle.runs.proofs.EffectInstances.{member_inside, instance_stands, at_instance, written_with, written_without}
 use Rattle.runs.proofs.Walks.{none_kept, members_in}
 use Rattle.runs.proofs.EffectShapes.{no_effect_left, effect_begins, effect_kind, effect_ends_after, at_conjunction, at_for_each, at_when, at_change, first_effect}
@@ -35,10 +40,10 @@ EffectPromised s i a b r = (e : Effect) (j : ℕ) → EffectOf s i e j → Parts
 
 -- and why they stop
 abbrev LiteralExplained : Settling → ℕ → Stop → Type 0
-LiteralExplained s i stop = (d : Change) (j : ℕ) → ChangeIn s.sheet i d j → Explains (some_clashes (round_in s) (ground (task_in s) (bound s.sheet) d ∷ [])) stop
+LiteralExplained s i stop = (d : Change) (j : ℕ) → ChangeIn s.sheet i d j → Explains (clash_in (round_in s) (ground (task_in s) (bound s.sheet) d ∷ []) (i ∷ [])) stop
 
 abbrev EffectExplained : Settling → ℕ → Stop → Type 0
-EffectExplained s i stop = (e : Effect) (j : ℕ) → EffectOf s i e j → Explains (parts_clash (task_in s) (round_in s) (parts_of s e)) stop
+EffectExplained s i stop = (e : Effect) (j : ℕ) → EffectOf s i e j → Explains (effect_clash s i e) stop
 
 -- the part that a change is
 abbrev plain_part : Settling → Change → Part
@@ -107,9 +112,12 @@ write_effect-returns-in-And t c =
     let m = get_or A.sheet.task.now.table.entries.operands.now i 0 in
     let opened : Turned (EffectsOf A (i + 1) m) (EffectOf A i) (all_parts_of A) (parts_of A) =
     record { one = λ e j s. let x = at_conjunction s (sym c.in-And.ensures) in (x.0, x.2, ap (parts_of A) x.1) } in
+    let spots : Turned (EffectsOf A (i + 1) m) (EffectOf A i) (effects_clash A (i + 1)) (effect_clash A i) =
+    record { one = λ e j s. let x = at_conjunction s (sym c.in-And.ensures) in (x.0, x.2, ap (effect_clash A i) x.1) } in
     record {
       wrote = wrote_as opened (λ ps n. PartsWritten (task_in A) (round_in A) ps c.args.draft.now c.write_all.new.draft n) c.write_all.result c.write_all.ensures.wrote;
-      stopped = stopped_as opened (parts_clash (task_in A) (round_in A)) c.write_all.result c.write_all.ensures.stopped;
+      stopped = stopped_as spots (λ o. o) c.write_all.result c.write_all.ensures.stopped;
+      extends = c.write_all.ensures.extends;
     }
 
 pub write_effect-returns-in_err-written-in-Forall-clause-stopped : goal.write_effect-returns-in_err-written-in-Forall-clause-stopped
@@ -119,7 +127,7 @@ write_effect-returns-in_err-written-in-Forall-clause-stopped t c =
     rw (p.1, p.2)
     (λ e j s.
     let x = at_for_each s (sym c.in-Forall.ensures) in
-    subst (λ g. Explains (parts_clash (task_in A) (round_in A) (parts_of A g)) c.in_err-written-in-Forall.field-0.0) (sym x.1) (c.in_err-written-in-Forall.ensures.stopped x.0 j x.2))
+    subst (λ g. Explains (effect_clash A c.args.at g) c.in_err-written-in-Forall.field-0.0) (sym x.1) (c.in_err-written-in-Forall.ensures.stopped x.0 j x.2))
 
 pub write_effect-returns-in_ok-written-in-Forall-clause-wrote : goal.write_effect-returns-in_ok-written-in-Forall-clause-wrote
 write_effect-returns-in_ok-written-in-Forall-clause-wrote t c e j s =
@@ -147,8 +155,9 @@ write_effect-returns-in-When t c =
           IfErr-weaker c.write_when.result (WhenExplained A (i + 1)) (EffectExplained A i)
           (λ stop h e j s.
           let x = at_when s (sym c.in-When.ensures) in
-          subst (λ g. Explains (parts_clash (task_in A) (round_in A) (parts_of A g)) stop) (sym x.3) (h x.0 x.1 x.2 j x.4 x.5))
+          subst (λ o. Explains o stop) (sym (ap (effect_clash A i) x.3 ∙ ap (λ n. when_clash A n x.0 x.1) (sym (formula_ends x.4)))) (h x.0 x.1 x.2 j x.4 x.5))
           c.write_when.ensures.stopped;
+      extends = c.write_when.ensures.extends;
     }
 
 pub write_effect-returns-in_default : goal.write_effect-returns-in_default
@@ -174,16 +183,17 @@ write_effect-returns-in_default t c =
           (λ stop h e j s.
           let x = at_change s (λ q. other_code k And c.in_default.not-And (c.kind_at.ensures ∙ q)) (λ q. other_code k Forall c.in_default.not-Forall (c.kind_at.ensures ∙ q)) (λ q. other_code k When c.in_default.not-When (c.kind_at.ensures ∙ q)) in
           let p = plain_part A x.0 in
-          subst (λ g. Explains (parts_clash T r (parts_of A g)) stop) (sym x.1)
-          (explained (some_clashes r p.literals) (parts_clash T r (p ∷ [])) stop (when_clashes T r (bound A.sheet) (constant true) p.literals refl) (h x.0 j x.2)))
+          subst (λ g. Explains (effect_clash A i g) stop) (sym x.1)
+          (explained (clash_in r p.literals (i ∷ [])) (clash_in_parts T r (p ∷ []) ((i ∷ []) ∷ [])) stop (λ n. first_in_part T r n (bound A.sheet) (constant true) p.literals (i ∷ []) refl) (h x.0 j x.2)))
           c.write_literal.ensures.stopped;
+      extends = c.write_literal.ensures.extends;
     }
 
 pub write_all-loop-k-init : goal.write_all-loop-k-init
 write_all-loop-k-init t c =
     let n : c.args.count - 0 ≡ c.args.count = omega arith in
     let A = c.args.self.now in
-    (omega arith, λ es j s. ([], es, rw n s, refl, no_parts (task_in A) (round_in A) c.args.draft.now))
+    (omega arith, λ es j s. ([], es, rw n s, refl, no_parts (task_in A) (round_in A) c.args.draft.now, [], refl, refl))
 
 pub write_all-write_effect-requires : goal.write_all-write_effect-requires
 write_all-write_effect-requires t c =
@@ -204,9 +214,27 @@ write_all-returns-in_err-more-clause-stopped t c =
     let m = first_effect w.2 (c.args.count - (c.loop-k._k + 1)) (omega arith) in
     let first = parts_of A m.0 in
     let rest = all_parts_of A m.2 in
-    explained (parts_clash T r first) (parts_clash T r (all_parts_of A es)) c.in_err-more.field-0.0
-    (clash_inside T r w.0 first rest (longer w.0 first rest (ap (all_parts_of A) m.3) w.3))
+    let at = c.loop-k.next in
+    let spots = part_places T at m.0 in
+    let later = all_part_places T (at + length (write_effect m.0)) (effects_of m.2) in
+    explained (effect_clash A at m.0) (effects_clash A c.args.at es) c.in_err-more.field-0.0
+    (λ p. first_part_inside T r p w.0 first rest w.5 spots later (longer w.0 first rest (ap (all_parts_of A) m.3) w.3)
+    (longer w.5 spots later (ap (λ fs. all_part_places T at (effects_of fs)) m.3) w.7) w.6 w.4.2)
     (c.in_err-more.ensures.stopped m.0 m.1 m.4))
+
+pub write_all-returns-in_err-more-clause-extends : goal.write_all-returns-in_err-more-clause-extends
+write_all-returns-in_err-more-clause-extends t c =
+    let r = c.requires in
+    let p = err_from_is_err_and c.from_residual.result c.from_residual.ensures.1 in
+    rw p.1 (draft_after (c.loop-k.invariant.1 r.0 r.1 r.2).4.0 c.in_err-more.ensures.extends)
+
+pub write_all-returns-in_err-written-clause-extends : goal.write_all-returns-in_err-written-clause-extends
+write_all-returns-in_err-written-clause-extends t c =
+    let r = c.requires in
+    let w = c.loop-k.invariant.1 r.0 r.1 r.2 in
+    let m = first_effect w.2 (c.args.count - (c.loop-k._k + 1)) (omega arith) in
+    let p = err_from_is_err_and c.from_residual-in_err-written.result c.from_residual-in_err-written.ensures.1 in
+    rw p.1 (draft_after w.4.0 (draft_so (c.in_ok-more.ensures.wrote m.0 m.1 m.4).0.0))
 
 pub write_all-loop-k-preserved : goal.write_all-loop-k-preserved
 write_all-loop-k-preserved t c =
@@ -221,12 +249,19 @@ write_all-loop-k-preserved t c =
           let m = first_effect w.2 r (omega arith) in
           let e = c.in_ok-more.ensures.wrote m.0 m.1 m.4 in
           let q = e.1 in
-          let first = parts_of A m.0 in (
+          let first = parts_of A m.0 in
+          let T = task_in A in
+          let at = c.loop-k.next in
+          let spots = part_places T at m.0 in
+          let ends = effect_ends m.4 in (
             w.0 ++ first,
             m.2,
             rw q m.5,
             longer w.0 first (all_parts_of A m.2) (ap (all_parts_of A) m.3) w.3,
-            parts_after (task_in A) (round_in A) w.0 first _ _ _ _ _ _ w.4 e.0 c.in_ok-written.ensures.sum,
+            parts_after (task_in A) (round_in A) w.0 first _ _ _ _ _ _ w.4 e.0 c.in_ok-written.ensures,
+            w.5 ++ spots,
+            as_many_more w.0 first w.5 spots w.6 (parts_placed T (bound A.sheet) at m.0),
+            longer w.5 spots _ (ap (λ fs. all_part_places T at (effects_of fs)) m.3 ∙ ap (λ n. spots ++ all_part_places T n (effects_of m.2)) (sym (e.1 ∙ ends))) w.7,
           ),
     )
 
@@ -259,11 +294,34 @@ write_each-returns-in_err-more-clause-stopped t c =
     (λ e j s.
     let F = instance_of A e in
     let kept = in_set (get_or K.table.entries.operands.now c.args.type_number 0) in
-    let w = member_inside kept F c.loop-o.o K.table.sizes.objects c.loop-o-test.true (eq-eqb _ _ c.if-members-o-eq1.true) in
+    let o = c.loop-o.o in
+    let at = c.args.at in
+    let G : ℕ → List (List ℕ) = λ o. part_places T at e in
+    let taken = eq-eqb _ _ c.if-members-o-eq1.true in
+    let w = member_inside kept F o K.table.sizes.objects c.loop-o-test.true taken in
+    let v = member_inside kept G o K.table.sizes.objects c.loop-o-test.true taken in
+    let all = sym (members_in (held K) K.formed c.args.type_number c.requires.known) in
+    let before = keep kept (below o) in
     let stop = c.in_err-more.field-0.0 in
-    explained (parts_clash T r (F c.loop-o.o)) (parts_clash T r (gather F (members T c.args.type_number))) stop
-    (clash_inside T r (gather F (keep kept (below c.loop-o.o))) (F c.loop-o.o) w.0 (ap (gather F) (sym (members_in (held K) K.formed c.args.type_number c.requires.known)) ∙ w.1))
-    (at_instance A c.with-instance.result c.loop-o.o n.task n.verdicts n.bound (λ t r ps. Explains (parts_clash t r ps) stop) e (c.in_err-more.ensures.stopped e j (instance_stands A c.with-instance.result n.task n.depth s))))
+    explained (clash_in_parts T r (F o) (G o)) (instances_clash A at e (members T c.args.type_number)) stop
+    (λ p. first_part_inside T r p (gather F before) (F o) w.0 (gather G before) (G o) v.0 (ap (gather F) all ∙ w.1) (ap (gather G) all ∙ v.1)
+    (as_many F G (λ x. parts_placed T (bind (bound A.sheet) x) at e) before) (c.loop-o.invariant e j s).2)
+    (at_instance A c.with-instance.result o n.task n.verdicts n.bound (λ t r ps. Explains (clash_in_parts t r ps (part_places t at e)) stop) e (c.in_err-more.ensures.stopped e j (instance_stands A c.with-instance.result n.task n.depth s))))
+
+pub write_each-returns-in_err-more-clause-extends : goal.write_each-returns-in_err-more-clause-extends
+write_each-returns-in_err-more-clause-extends t c =
+    let r = c.requires.stands in
+    let p = err_from_is_err_and c.from_residual.result c.from_residual.ensures.1 in
+    rw p.1 (draft_after (c.loop-o.invariant r.0 r.1 r.2).0 c.in_err-more.ensures.extends)
+
+pub write_each-returns-in_err-written-clause-extends : goal.write_each-returns-in_err-written-clause-extends
+write_each-returns-in_err-written-clause-extends t c =
+    let r = c.requires.stands in
+    let n = c.with-instance.ensures in
+    let p = err_from_is_err_and c.from_residual-in_err-written.result c.from_residual-in_err-written.ensures.1 in
+    rw p.1
+    (draft_after (c.loop-o.invariant r.0 r.1 r.2).0
+    (draft_so (c.in_ok-more.ensures.wrote r.0 r.1 (instance_stands c.args.self.now c.with-instance.result n.task n.depth r.2)).0.0))
 
 pub write_each-loop-o-preserved : goal.write_each-loop-o-preserved
 write_each-loop-o-preserved t c e j s =
@@ -277,7 +335,7 @@ write_each-loop-o-preserved t c e j s =
           let n = w.with-instance.ensures in
           written_with T r kept F _ _ _ c.loop-o.o (c.loop-o.invariant e j s) _ _ _ _ _ (eq-eqb _ _ w.if-members-o-eq1.true)
           (at_instance A w.with-instance.result c.loop-o.o n.task n.verdicts n.bound (λ t r ps. PartsWritten t r ps c.loop-o.draft w.write_effect.new.draft w.in_ok-more.more) e (w.in_ok-more.ensures.wrote e j (instance_stands A w.with-instance.result n.task n.depth s)).0)
-          w.in_ok-written.ensures.sum w.draft-is w.written-is
+          w.in_ok-written.ensures w.draft-is w.written-is
       | write_each-else-members-o-eq1 w ↦ written_without T r kept F _ _ _ c.loop-o.o (c.loop-o.invariant e j s) _ _ (ne_eqb _ _ w.if-members-o-eq1.false) w.draft-is w.written-is
     ]
 

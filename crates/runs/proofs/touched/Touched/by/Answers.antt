@@ -19,9 +19,9 @@ loop-places-preserved c =
 pub returns-clause-added : goal.returns-clause-added
 returns-clause-added c p l =
     all_added c.args.task.now _ c.loop-places.touched c.loop-places.places-index (omega arith) c.loop-places.invariant p l
-    (get_or-replicate 32 p false false (omega (arith, c.args.task.now.table.predicates)))
+    (get_or-replicate 32 p false false l)
 
 pub returns-clause-deleted : goal.returns-clause-deleted
 returns-clause-deleted c p l =
     all_deleted c.args.task.now _ c.loop-places.touched c.loop-places.places-index (omega arith) c.loop-places.invariant p l
-    (get_or-replicate 32 p false false (omega (arith, c.args.task.now.table.predicates)))
+    (get_or-replicate 32 p false false l)

@@ -67,6 +67,6 @@ clash_among t r [] = none
 clash_among t r (m ∷ ms) = or_else (clash_of t r m) (clash_among t r ms)
 
 -- where the first literal of an action of the book begins that adds an atom that is always false, or deletes one that is always true;
--- no task that loads has one (`NoLiteralClashes` of crate `book_of_task`)
+-- no task that loads has one (`NoLiteralClashes`)
 unfoldable pub first_clash : Task → Option ℕ
 first_clash t = clash_among t (round_two t) (names t)
