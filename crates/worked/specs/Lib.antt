@@ -1,0 +1,4 @@
+pub mod Tables
+pub mod Calls
+pub mod Views
+pub mod ComingOut

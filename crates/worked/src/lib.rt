@@ -1,0 +1,18 @@
+// The worked tasks: small tasks, what loading, instantiating and opening make of each, and what its run and its book's run answer.
+#![tactic(auto)]
+
+ghost use Rattle.worked.specs.ComingOut.{WorkedTasksComeOut};
+
+mod books;
+mod case;
+mod playing;
+mod tasks;
+mod written;
+
+pub use case::Case;
+pub use written::Written;
+
+// The theorem on all of them.
+pub fn worked_tasks_come_out()
+    ensures { WorkedTasksComeOut }
+{}
