@@ -12,7 +12,7 @@ use Rattle.book.specs.Opens.{opens}
 use Rattle.book.specs.Reads.{book, ground, objects}
 use Rattle.book_theorems.specs.Writes.{write_book}
 use Rattle.instantiate.specs.Outcome.{book_entries, kinds_of, operands_of, sizes_of}
-use Rattle.instantiate.specs.Places.{first_clash}
+use Rattle.book_of_task.specs.Places.{first_clash}
 use Rattle.agreement.proofs.Tied.{answer_as}
 use Rattle.worked.specs.Tables.{task_table, book_table}
 use Rattle.worked.specs.Calls.{calls, in_task, in_book}

@@ -16,7 +16,7 @@ use Rattle.protocol.specs.BookCalls.{facts, book_machine}
 use Rattle.protocol.specs.declared.calls.Call.{Call}
 use Rattle.protocol.specs.declared.calls.Answer.{Answer}
 use Rattle.instantiate.specs.Outcome.{instantiates, book_entries, literals_needed, sizes_of, most, unless_clash}
-use Rattle.instantiate.specs.Places.{first_clash}
+use Rattle.book_of_task.specs.Places.{first_clash}
 use Rattle.agreement.specs.Agreement.{call_of}
 use Rattle.agreement.proofs.Tied.{answer_as, Stands, Tied, turn_stands, task_tied, book_tied, passes}
 
