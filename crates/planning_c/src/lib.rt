@@ -6,7 +6,7 @@ mod line;
 mod outcome;
 mod places;
 
-ghost use Rattle.std.specs.Prelude.{◌≡◌, ◌<◌, ◌⊎◌, length, take};
+ghost use Rattle.std.specs.Prelude.{◌≡◌, ◌<◌, ◌≤◌, ◌⊎◌, length, take};
 ghost use Rattle.instantiate.specs.Growing.{over};
 ghost use Rattle.instantiate.specs.Refusals.{no_memory};
 ghost use Rattle.model.specs.Books.{book as book_in};
@@ -28,6 +28,7 @@ pub extern "C" fn planning_convert(
     output: &mut [u8],
 ) -> Outcome
     ensures answers { (result ≡ refused no_memory) ⊎ (result ≡ written (converts input.now (room_with places) (length output.old))) }
+    ensures inside { result.length ≤ length output.old }
     ensures written { result.number ≡ 0 → output.new ≡ over (book_file (task_in_file input.now)) output.old }
     ensures opens { result.number ≡ 0 → HoldsBook (take result.length output.new) (book_in (task_in_file input.now)) }
     ensures untouched { 0 < result.number → output.new ≡ output.old }

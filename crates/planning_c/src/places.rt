@@ -1,5 +1,5 @@
 // Converting and checking in arrays of so many places.
-ghost use Rattle.std.specs.Prelude.{◌≡◌, ◌⊎◌, length, take, Err, IfOk, MatchResult};
+ghost use Rattle.std.specs.Prelude.{◌≡◌, ◌≤◌, ◌⊎◌, length, take, Err, IfOk, MatchResult};
 ghost use Rattle.instantiate.specs.Growing.{over};
 ghost use Rattle.instantiate.specs.Refusals.{no_memory};
 ghost use Rattle.model.specs.Books.{book as book_in};
@@ -19,6 +19,7 @@ pub(crate) fn convert_to_book(
     output: &mut [u8],
 ) -> Result<usize, Fault>
     ensures answers { (result ≡ Err no_memory) ⊎ (result ≡ converts input.now (room_with places) (length output.old)) }
+    ensures inside { IfOk result (λ n. n ≤ length output.old) }
     ensures written { MatchResult result (λ _. output.new ≡ over (book_file (task_in_file input.now)) output.old) (λ _. output.new ≡ output.old) }
     ensures opens { IfOk result (λ n. HoldsBook (take n output.new) (book_in (task_in_file input.now))) }
 {
