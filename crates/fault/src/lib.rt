@@ -9,7 +9,6 @@ ghost use Rattle.fault.specs.Texts.{layer_text, fault_text};
 mod line;
 
 pub use line::refusal_line;
-
 use std::alloc::AllocError;
 use std::fmt;
 

@@ -9,10 +9,15 @@ use std::process::ExitCode;
 
 // How many bytes the output may have, and how many places each array.
 const FILE: usize = 65536;
+
 const PLACES: usize = 8192;
 
 // Writes the book's file, or the line of the refusal.
-pub(crate) fn write_converted(alloc: Global, input: &[u8], out: &mut impl Write) -> io::Result<ExitCode> {
+pub(crate) fn write_converted(
+    alloc: Global,
+    input: &[u8],
+    out: &mut impl Write,
+) -> io::Result<ExitCode> {
     let none = Literal {
         atom: 0,
         sign: Sign::Adds,

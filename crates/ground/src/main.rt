@@ -6,9 +6,9 @@ mod help;
 
 use converted::write_converted;
 use help::HELP;
+use std::env;
 use std::io::{self, Read, Write};
 use std::process::ExitCode;
-use std::env;
 use std::rt::Env;
 
 // How many bytes a file may have; what comes after them is not read.
@@ -16,7 +16,11 @@ const FILE: u64 = 65536;
 
 // Whether the program is only asked what it does.
 fn asks_for_help(rt: &(impl Env + Alloc)) -> io::Result<bool> {
-    Ok(env::args(rt)?.nth(1).is_some_and(|word| word.as_str() == "--help"))
+    Ok(
+        env::args(rt)?
+            .nth(1)
+            .is_some_and(|word| word.as_str() == "--help"),
+    )
 }
 
 fn run(rt: &HostRuntime) -> io::Result<ExitCode> {
