@@ -2,3 +2,4 @@ pub mod Tables
 pub mod Calls
 pub mod Views
 pub mod ComingOut
+pub mod Files

@@ -2,6 +2,7 @@
 #![tactic(auto)]
 
 ghost use Rattle.worked.specs.ComingOut.{WorkedTasksComeOut};
+ghost use Rattle.worked.specs.Files.{WorkedFilesComeOut};
 
 mod books;
 mod case;
@@ -15,4 +16,9 @@ pub use written::Written;
 // The theorem on all of them.
 pub fn worked_tasks_come_out()
     ensures { WorkedTasksComeOut }
+{}
+
+// The theorem on their files.
+pub fn worked_files_come_out()
+    ensures { WorkedFilesComeOut }
 {}
