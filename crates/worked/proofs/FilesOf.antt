@@ -1,9 +1,8 @@
 -- The files of the worked tasks, by computing.
-use Rattle.std.proofs.Common.{◌≡◌, ℕ, ◌≤◌, cond, ltb, List, length, Ok, Err, Result, sym, refl, ap, ◌∙◌, arith}
-use Rattle.fault.specs.declared.Fault.{Fault}
+use Rattle.std.proofs.Common.{◌≡◌, ℕ, ◌≤◌, cond, ltb, List, length, Ok, Err, refl, ap, ◌∙◌}
 use Rattle.fault.specs.declared.Layer.TheVariants.{File}
 use Rattle.fault.specs.Faults.{refusal}
-use Rattle.table.specs.Answers.{Answer, and_then}
+use Rattle.table.specs.Answers.{and_then}
 use Rattle.model.specs.Lists.{below}
 use Rattle.model.specs.Trees.{Task}
 use Rattle.model.specs.Books as tree
@@ -12,7 +11,7 @@ use Rattle.adl.specs.Reads.{task, formula, effect, consequent}
 use Rattle.book.specs.Opens.{opens, book_of}
 use Rattle.book.specs.Opens as books
 use Rattle.book_theorems.specs.Writes.{write_book}
-use Rattle.instantiate.specs.Outcome.{instantiates, kinds_of, operands_of, sizes_of, book_entries}
+use Rattle.instantiate.specs.Outcome.{kinds_of, operands_of, sizes_of, book_entries}
 use Rattle.files.specs.Formats.{number, laid_out, entries_told, fits, holds, kinds_told, operands_told, reads}
 use Rattle.files.specs.Converting.{HoldsBook, Room, before, book_file, book_sizes, converts, loads_file, size_list, task_in_file, task_sizes, writes_file}
 use Rattle.agreement.proofs.Tied.{passes}
@@ -73,11 +72,11 @@ module _ (c : Case) (z : sizes_of (tree.book (the_task c)) ≡ (book_table c).si
   converted room output enough long =
       let n : entries_told 6 source ≡ (task_table c).sizes.entries = ap (λ x. x.entries) t.sizes in
       let read : reads 6 source room.task_kinds room.task_operands ≡ Ok tt =
-          ap (λ x. and_then x (holds (entries_told 6 source) room.task_kinds room.task_operands)) t.long
-          ∙ ap (λ e. holds e room.task_kinds room.task_operands) n
-          ∙ enough_places _ _ _ enough.task_kinds enough.task_operands in
+      ap (λ x. and_then x (holds (entries_told 6 source) room.task_kinds room.task_operands)) t.long
+      ∙ ap (λ e. holds e room.task_kinds room.task_operands) n
+      ∙ enough_places _ _ _ enough.task_kinds enough.task_operands in
       let loaded : loads_file source room.task_kinds room.task_operands ≡ Ok tt =
-          ap (λ x. and_then x (loads (task_sizes source) (kinds_told 6 source) (operands_told 6 source))) read ∙ told_loads in
+      ap (λ x. and_then x (loads (task_sizes source) (kinds_told 6 source) (operands_told 6 source))) read ∙ told_loads in
       let written = λ (k : Task). writes_file k room.literals room.book_kinds room.book_operands output in
       let told = λ (n : ℕ). cond (ltb output n) (Err (refusal 14 File n)) (Ok n) in
       ap (λ x. before x (written (task_in_file source))) loaded
@@ -90,14 +89,14 @@ module _ (c : Case) (z : sizes_of (tree.book (the_task c)) ≡ (book_table c).si
   held = record {
     fits = b.long;
     opens =
-      ap (λ x. opens x (kinds_told 5 out) (operands_told 5 out)) b.sizes
-      ∙ ap (λ x. opens (book_table c).sizes x (operands_told 5 out)) b.kinds
-      ∙ ap (opens (book_table c).sizes (book_table c).kinds) b.operands
-      ∙ it.opens;
+        ap (λ x. opens x (kinds_told 5 out) (operands_told 5 out)) b.sizes
+        ∙ ap (λ x. opens (book_table c).sizes x (operands_told 5 out)) b.kinds
+        ∙ ap (opens (book_table c).sizes (book_table c).kinds) b.operands
+        ∙ it.opens;
     book =
-      ap (λ x. book_of (books.given x (kinds_told 5 out) (operands_told 5 out))) b.sizes
-      ∙ ap (λ x. book_of (books.given (book_table c).sizes x (operands_told 5 out))) b.kinds
-      ∙ ap (λ x. book_of (books.given (book_table c).sizes (book_table c).kinds x)) b.operands;
+        ap (λ x. book_of (books.given x (kinds_told 5 out) (operands_told 5 out))) b.sizes
+        ∙ ap (λ x. book_of (books.given (book_table c).sizes x (operands_told 5 out))) b.kinds
+        ∙ ap (λ x. book_of (books.given (book_table c).sizes (book_table c).kinds x)) b.operands;
   }
 
   file_comes_out : FileComesOut c

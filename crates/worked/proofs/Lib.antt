@@ -1,3 +1,4 @@
 pub mod Rooms
 pub mod Cases
 mod FilesOf
+mod AgreedOn

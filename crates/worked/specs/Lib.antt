@@ -3,3 +3,4 @@ pub mod Calls
 pub mod Views
 pub mod ComingOut
 pub mod Files
+pub mod Agreeing

@@ -2,6 +2,7 @@
 #![tactic(auto)]
 
 ghost use Rattle.worked.specs.ComingOut.{WorkedTasksComeOut};
+ghost use Rattle.worked.specs.Agreeing.{WorkedTasksAreAgreedOn};
 ghost use Rattle.worked.specs.Files.{WorkedFilesComeOut};
 
 mod books;
@@ -21,4 +22,9 @@ pub fn worked_tasks_come_out()
 // The theorem on their files.
 pub fn worked_files_come_out()
     ensures { WorkedFilesComeOut }
+{}
+
+// The agreement of both runs, on all of them.
+pub fn worked_tasks_are_agreed_on()
+    ensures { WorkedTasksAreAgreedOn }
 {}
