@@ -2,7 +2,7 @@
 #![tactic(auto)]
 
 mod paths;
-mod rows;
+mod sizes;
 mod towers;
 
 use adl::{Sizes, Task};
@@ -12,13 +12,12 @@ use instantiate::instantiate;
 use middleware::{BOOK_TABLE, SIZES, TABLE};
 use paths::{pairs, path};
 use rising::{Literal, Sign};
-use rows::Rows;
 use std::alloc::Global;
 use std::rt::{Clock, Env};
 use std::time::Instant;
 use std::{env, io};
 use towers::tower;
-use trials::Arrays;
+use trials::{Arrays, Rows};
 
 // The arrays that a book is written into, and the list that is lent for it.
 #[derive(Drop)]

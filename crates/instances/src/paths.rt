@@ -1,8 +1,9 @@
 // Tasks for measuring: one whose names nearly all fall away, and one with a long book.
-use crate::rows::Rows;
+use crate::sizes::one_operator;
 use adl::Sizes;
 use std::alloc::{AllocError, Global};
 use table::Kind;
+use trials::Rows;
 
 // Twenty places in a row, each linked to the next, which never changes; an operator goes along four that are linked: of 116,280 names few are left.
 pub(crate) fn path(alloc: Global) -> Result<(Sizes, Rows), AllocError> {
@@ -11,10 +12,10 @@ pub(crate) fn path(alloc: Global) -> Result<(Sizes, Rows), AllocError> {
     rows.put(Kind::Predicate, 2)?;
     rows.put(Kind::Predicate, 1)?;
     for place in 0..19 {
-        rows.put_ground(0, &[place, place + 1])?;
+        rows.put_atom(0, Kind::Object, &[place, place + 1])?;
     }
-    rows.put_ground(1, &[0])?;
-    rows.put_ground(1, &[19])?;
+    rows.put_atom(1, Kind::Object, &[0])?;
+    rows.put_atom(1, Kind::Object, &[19])?;
     rows.put_operator(4)?;
     rows.put(Kind::And, 4)?;
     rows.put_atom(0, Kind::Variable, &[0, 1])?;
@@ -24,7 +25,7 @@ pub(crate) fn path(alloc: Global) -> Result<(Sizes, Rows), AllocError> {
     rows.put(Kind::And, 2)?;
     rows.put_deleted(1, &[0])?;
     rows.put_atom(1, Kind::Variable, &[3])?;
-    let sizes = rows.sizes(20, 2, 20);
+    let sizes = one_operator(&rows, 20, 2, 20);
     Ok((sizes, rows))
 }
 
@@ -33,8 +34,8 @@ pub(crate) fn pairs(alloc: Global) -> Result<(Sizes, Rows), AllocError> {
     let mut rows = Rows::new(alloc);
     rows.put(Kind::TypeSet, u32::MAX)?;
     rows.put(Kind::Predicate, 2)?;
-    rows.put_ground(0, &[0, 1])?;
-    rows.put_ground(0, &[1, 0])?;
+    rows.put_atom(0, Kind::Object, &[0, 1])?;
+    rows.put_atom(0, Kind::Object, &[1, 0])?;
     rows.put_operator(3)?;
     rows.put(Kind::And, 3)?;
     rows.put_atom(0, Kind::Variable, &[0, 1])?;
@@ -46,6 +47,6 @@ pub(crate) fn pairs(alloc: Global) -> Result<(Sizes, Rows), AllocError> {
     rows.put_deleted(0, &[0, 2])?;
     rows.put_atom(0, Kind::Variable, &[1, 0])?;
     rows.put_atom(0, Kind::Variable, &[2, 1])?;
-    let sizes = rows.sizes(32, 1, 1);
+    let sizes = one_operator(&rows, 32, 1, 1);
     Ok((sizes, rows))
 }

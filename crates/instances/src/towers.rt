@@ -1,8 +1,9 @@
 // Towers of Hanoi: pegs are objects 0 to 2, discs the objects after them, the smallest first.
-use crate::rows::Rows;
+use crate::sizes::one_operator;
 use adl::Sizes;
 use std::alloc::{AllocError, Global};
 use table::Kind;
+use trials::Rows;
 
 // a disc is smaller than another, or than a peg
 const SMALLER: u32 = 0;
@@ -15,7 +16,7 @@ const CLEAR: u32 = 2;
 fn put_sizes(rows: &mut Rows, disc: u32, objects: u32) -> Result<(), AllocError> {
     for other in 0..objects {
         if other < 3 || other > disc {
-            rows.put_ground(SMALLER, &[disc, other])?;
+            rows.put_atom(SMALLER, Kind::Object, &[disc, other])?;
         }
     }
     Ok(())
@@ -25,7 +26,7 @@ fn put_sizes(rows: &mut Rows, disc: u32, objects: u32) -> Result<(), AllocError>
 fn put_tower(rows: &mut Rows, objects: u32, peg: u32) -> Result<(), AllocError> {
     for disc in 3..objects {
         let below = if disc + 1 < objects { disc + 1 } else { peg };
-        rows.put_ground(ON, &[disc, below])?;
+        rows.put_atom(ON, Kind::Object, &[disc, below])?;
     }
     Ok(())
 }
@@ -59,12 +60,13 @@ pub(crate) fn tower(alloc: Global, discs: u32) -> Result<(Sizes, Rows), AllocErr
     }
     put_tower(&mut rows, objects, 0)?;
     for clear in [1, 2, 3] {
-        rows.put_ground(CLEAR, &[clear])?;
+        rows.put_atom(CLEAR, Kind::Object, &[clear])?;
     }
-    let facts = rows.atoms;
     rows.put(Kind::And, discs)?;
     put_tower(&mut rows, objects, 2)?;
     put_move(&mut rows)?;
-    let sizes = rows.sizes(objects, 3, facts);
+    // each disc is smaller than three pegs and the later discs, and on something; three things are clear
+    let facts = discs * (discs + 7) / 2 + 3;
+    let sizes = one_operator(&rows, objects, 3, facts);
     Ok((sizes, rows))
 }
