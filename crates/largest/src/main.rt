@@ -2,6 +2,7 @@
 #![tactic(auto)]
 
 mod case;
+mod limit;
 mod names;
 mod nesting;
 mod wide;
@@ -12,8 +13,7 @@ use book_runs::BookRun;
 use case::Case;
 use fault::Fault;
 use instantiate::instantiate;
-use names::names;
-use nesting::nesting;
+use limit::{LIMITS, Limit, build};
 use protocol::{Name, Run};
 use rising::{Literal, Sign};
 use runs::TaskRun;
@@ -21,7 +21,6 @@ use std::alloc::{AllocError, Global};
 use std::rt::Env;
 use std::{env, io};
 use store::Bits;
-use wide::{atoms, changes, literals};
 
 // What is lent: the bytes of a store, an image, a list of literals, and the arrays of a book.
 #[derive(Drop)]
@@ -131,7 +130,8 @@ fn tell_book(rt: &impl Print, case: &Case, book: Sizes) -> io::Result<()> {
     } = book;
     print!(rt;
         "{}: entries {}, atoms {atoms}; its book: relevant {relevant}, always true {always}, actions {actions}, entries {entries}",
-        case.word, case.sizes.entries
+        case.limit.word(),
+        case.sizes.entries
     )
 }
 
@@ -145,7 +145,7 @@ fn tell_runs(rt: &impl Print, of_task: Ran, of_book: Ran) -> io::Result<()> {
 fn tell(rt: &impl Print, case: &Case, outcome: Result<Outcome, Fault>) -> io::Result<()> {
     let outcome = match outcome {
         Ok(outcome) => outcome,
-        Err(fault) => return println!(rt; "{}: {fault}", case.word),
+        Err(fault) => return println!(rt; "{}: {fault}", case.limit.word()),
     };
     tell_book(rt, case, outcome.book)?;
     match outcome.runs {
@@ -154,39 +154,26 @@ fn tell(rt: &impl Print, case: &Case, outcome: Result<Outcome, Fault>) -> io::Re
     }
 }
 
-fn try_case(
-    rt: &impl Print,
-    alloc: Global,
-    lent: &mut Lent,
-    case: Result<Case, AllocError>,
-) -> anyhow::Result<()> {
-    let case = case?;
+fn try_limit(rt: &impl Print, alloc: Global, lent: &mut Lent, limit: Limit) -> anyhow::Result<()> {
+    let case = build(alloc, limit)?;
     let outcome = load_and_try(alloc, &case, lent);
     tell(rt, &case, outcome)?;
     Ok(())
 }
 
+// Tries the tasks of all limits, or that of the one whose word is given.
 fn main(rt: HostRuntime) -> anyhow::Result<()> {
     let alloc = rt.alloc();
     let mut lent = Lent::new(alloc)?;
-    let word = env::args(&rt)?.nth(1);
-    match word.as_deref() {
-        Some("nesting") => try_case(&rt, alloc, &mut lent, nesting(alloc)),
-        Some("atoms") => try_case(&rt, alloc, &mut lent, atoms(alloc)),
-        Some("literals") => try_case(&rt, alloc, &mut lent, literals(alloc)),
-        Some("names") => try_case(&rt, alloc, &mut lent, names(alloc, "names", 32)),
-        Some("changes") => try_case(&rt, alloc, &mut lent, changes(alloc)),
-        Some(_) => Ok(println!(rt; "no such word")?),
-        None => {
-            try_case(&rt, alloc, &mut lent, nesting(alloc))?;
-            try_case(&rt, alloc, &mut lent, atoms(alloc))?;
-            try_case(&rt, alloc, &mut lent, literals(alloc))?;
-            try_case(
-                &rt,
-                alloc,
-                &mut lent,
-                names(alloc, "names of one operator", 1),
-            )
+    let asked = env::args(&rt)?.nth(1);
+    for limit in LIMITS {
+        let wanted = match &asked {
+            Some(word) => word.as_str() == limit.word(),
+            None => true,
+        };
+        if wanted {
+            try_limit(&rt, alloc, &mut lent, limit)?;
         }
     }
+    Ok(())
 }

@@ -1,5 +1,6 @@
 // A task whose formulas and effects are 256 entries, each inside those before it.
 use crate::case::Case;
+use crate::limit::Limit;
 use adl::Sizes;
 use std::alloc::{AllocError, Global};
 use table::Kind;
@@ -63,7 +64,7 @@ pub(crate) fn nesting(alloc: Global) -> Result<Case, AllocError> {
         entries: rows.count(),
     };
     Ok(Case {
-        word: "nesting",
+        limit: Limit::Nesting,
         sizes,
         rows,
         objects: Some(&[]),

@@ -1,5 +1,6 @@
 // Tasks with as many atoms, and with as many changes in one effect, as there can be.
 use crate::case::Case;
+use crate::limit::Limit;
 use adl::Sizes;
 use std::alloc::{AllocError, Global};
 use table::Kind;
@@ -48,7 +49,7 @@ pub(crate) fn atoms(alloc: Global) -> Result<Case, AllocError> {
     rows.put_often(Kind::Forall, 0, 3)?;
     rows.put_atom(1, Kind::Variable, &[0, 1, 2])?;
     Ok(Case {
-        word: "atoms",
+        limit: Limit::Atoms,
         sizes: sizes(&rows, 2, 4086),
         rows,
         objects: Some(&[]),
@@ -69,7 +70,7 @@ pub(crate) fn literals(alloc: Global) -> Result<Case, AllocError> {
     rows.put_deleted(0, &[0, 1, 2])?;
     rows.put_atom(0, Kind::Variable, &[0, 1, 2])?;
     Ok(Case {
-        word: "literals",
+        limit: Limit::Literals,
         sizes: sizes(&rows, 1, 0),
         rows,
         objects: Some(&[]),
@@ -88,7 +89,7 @@ pub(crate) fn changes(alloc: Global) -> Result<Case, AllocError> {
     rows.put(Kind::And, 252)?;
     rows.put_often(Kind::Atom, 0, 252)?;
     Ok(Case {
-        word: "changes",
+        limit: Limit::Changes,
         sizes: sizes(&rows, 1, 0),
         rows,
         objects: None,
