@@ -1,0 +1,53 @@
+-- Files, by computing.
+use Rattle.std.proofs.Common.{◌≡◌, zero, suc, [], ◌∷◌, Ok, Err, slice_index, refl, ap, arith}
+use Rattle.fault.specs.declared.Layer.TheVariants.{File}
+use Rattle.fault.specs.Faults.{refusal}
+use Rattle.table.specs.Answers.{Answer}
+use Rattle.model.specs.Lists.{below}
+use Rattle.adl.specs.Reads.{task, formula, effect, consequent}
+use Rattle.book.specs.Reads.{book, ground, objects}
+use Rattle.book_theorems.specs.Writes.{write_book}
+use Rattle.book_of_task.specs.Places.{first_clash}
+use Rattle.files.specs.Formats.{number, laid_out}
+use Rattle.files.specs.Theorems.{FourBytes, Bytes}
+use Rattle.examples.specs.Files.{FilesByExample}
+
+fitting : FourBytes (513 ∷ 2147483648 ∷ [])
+fitting zero d h = omega arith
+fitting (suc zero) d h = omega arith
+fitting (suc (suc k)) d h = absurd (omega arith)
+
+bytes : Bytes (9 ∷ 255 ∷ [])
+bytes zero d h = omega arith
+bytes (suc zero) d h = omega arith
+bytes (suc (suc k)) d h = absurd (omega arith)
+
+refused_is_good : let a : Answer = Err (refusal 9 File 1) in a ≡ Ok tt → ⊥
+refused_is_good e = cc
+
+pub files : FilesByExample
+unfolding task formula effect consequent below book ground objects write_book first_clash number laid_out
+files = record {
+  bytes = refl;
+  lays_out = refl;
+  tells = record { length_fits = refl; sizes_read = refl; kinds_read = refl; operands_read = refl };
+  tells_not = λ t. absurd (omega (arith, ap (λ xs. slice_index xs 1) t.operands_read));
+  in_four_bytes = fitting;
+  too_large = λ h. absurd (omega (arith, h 0 0 (omega arith)));
+  are_bytes = bytes;
+  no_bytes = λ h. absurd (omega (arith, h 1 0 (omega arith)));
+  one_byte = refl;
+  no_kind = refl;
+  no_operand = refl;
+  loads = refl;
+  opens = refl;
+  no_book = refl;
+  too_short = refl;
+  long_enough = refl;
+  not_loaded = refl;
+  not_written = refl;
+  holds = record { fits = refl; opens = refl; book = refl };
+  holds_not = λ b h. refused_is_good h.fits;
+  filled = refl;
+  left = refl;
+}

@@ -1,0 +1,10 @@
+mod Reading
+mod Ascending
+mod Sets
+mod Tasks
+mod Books
+mod Rounds
+mod Calls
+mod Instantiated
+mod Bytes
+mod Both

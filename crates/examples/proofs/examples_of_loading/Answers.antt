@@ -1,0 +1,8 @@
+use Rattle.examples.proofs.Tasks.{loading, in_no_table}
+use Rattle.examples.proofs.examples_of_loading.Goals as goal
+
+pub returns-clause-loads : goal.returns-clause-loads
+returns-clause-loads c = loading
+
+pub returns-clause-no_table : goal.returns-clause-no_table
+returns-clause-no_table c = in_no_table

@@ -1,0 +1,11 @@
+pub mod Refusals
+pub mod Entries
+pub mod RisingLists
+pub mod Stores
+pub mod Loading
+pub mod Opening
+pub mod Settling
+pub mod Calling
+pub mod Instantiating
+pub mod Files
+pub mod Agreeing
