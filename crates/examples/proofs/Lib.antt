@@ -8,3 +8,4 @@ mod Calls
 mod Instantiated
 mod Bytes
 mod Both
+mod AllKinds

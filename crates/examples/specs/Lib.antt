@@ -9,3 +9,4 @@ pub mod Calling
 pub mod Instantiating
 pub mod Files
 pub mod Agreeing
+pub mod Lamps

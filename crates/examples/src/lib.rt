@@ -12,6 +12,7 @@ ghost use Rattle.examples.specs.Calling.{CallsByExample};
 ghost use Rattle.examples.specs.Instantiating.{InstantiatingByExample};
 ghost use Rattle.examples.specs.Files.{FilesByExample};
 ghost use Rattle.examples.specs.Agreeing.{AgreeingByExample};
+ghost use Rattle.examples.specs.Lamps.{LampsByExample};
 
 // The texts of refusals and of answers, and what they are in plain numbers.
 pub fn examples_of_refusals()
@@ -69,4 +70,9 @@ pub fn examples_of_files()
 // The agreement of both runs, and what it excludes.
 pub fn examples_of_agreeing()
     ensures { AgreeingByExample }
+{}
+
+// A task with the kinds that no worked task has, through all calls.
+pub fn examples_of_all_kinds()
+    ensures { LampsByExample }
 {}
