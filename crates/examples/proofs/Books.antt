@@ -4,6 +4,8 @@ use Rattle.model.specs.Trees.{Name}
 use Rattle.model.specs.Worked.{name}
 use Rattle.model.specs.Lists.{In}
 use Rattle.book.specs.Reads.{book, ground, objects}
+use Rattle.book.specs.Groups.{Rises}
+use Rattle.book.specs.Opens.{book_of}
 use Rattle.book_theorems.proofs.Sound.{what_opens_was_written}
 use Rattle.worked.proofs.Cases.{come_out}
 use Rattle.worked.specs.Tables.{book_table}
@@ -47,6 +49,13 @@ none_twice (inl e) = absurd (omega (arith, apart 1 0 _ _ e))
 none_twice (inr (inl e)) = absurd (omega (arith, last_apart 1 1 1 0 e))
 none_twice (inr (inr h)) = h
 
+rise : Rises (0 ∷ 2 ∷ [])
+rise zero (suc zero) h l = omega arith
+rise zero zero h l = absurd (omega arith)
+rise (suc i) zero h l = absurd (omega arith)
+rise (suc i) (suc j) h l = absurd (omega arith)
+rise zero (suc (suc j)) h l = absurd (omega arith)
+
 pub finding : FindingByExample
 unfolding book ground objects
 finding = record {
@@ -56,7 +65,12 @@ finding = record {
   not_first = λ t. absurd (omega (arith, apart 0 1 _ _ t.1));
   tells_none = none_twice;
   not_none = λ h. h (inr (inl refl));
+  stands = refl;
+  begin = refl;
   place = refl;
+  held_book = λ b same. ap book_of same;
   is_fact = refl;
   no_fact = refl;
+  rise = rise;
+  rise_not = λ r. absurd (omega (arith, r 0 1 (omega arith) (omega arith)));
 }

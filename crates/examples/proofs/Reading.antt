@@ -1,5 +1,5 @@
 -- Refusals, answers and entries, by computing.
-use Rattle.std.proofs.Common.{refl}
+use Rattle.std.proofs.Common.{refl, arith}
 use Rattle.std.specs.Fmt.{digits}
 use Rattle.fault.specs.Faults.{writing_cause}
 use Rattle.examples.specs.Refusals.{RefusalsByExample}
@@ -34,6 +34,8 @@ entries = record {
   at_first = refl;
   at_second = refl;
   at_third = refl;
+  held = λ e n k o. record { count = n; kinds = k; operands = o };
+  held_not = λ e ks os n h. absurd (omega (arith, n, h.count));
   read = refl;
   refused = refl;
   coded = refl;

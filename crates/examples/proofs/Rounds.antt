@@ -8,7 +8,8 @@ use Rattle.model.specs.Settling.{settle, always, unsettled, fact}
 use Rattle.adl.specs.Reads.{task, formula, effect, consequent}
 use Rattle.book_of_task.specs.Becoming.{SameBecoming}
 use Rattle.runs.specs.Effects.{meant}
-use Rattle.examples.specs.Settling.{ClashesByExample, WritingByExample, first_open, on}
+use Rattle.book_of_task.proofs.Becoming.{what_atoms_become}
+use Rattle.examples.specs.Settling.{ClashesByExample, WritingByExample, cells, first_open, on}
 
 same : SameBecoming (first_open (λ k. k)) (first_open (λ k. 0))
 same zero = refl
@@ -27,6 +28,7 @@ unfolding task formula effect consequent below
 clash = record {
   same = same;
   differ = λ h. facts_differ (h 0);
+  alike = what_atoms_become cells (first_open (λ k. k)) (first_open (λ k. 0)) same;
   adds_false = refl;
   deletes_true = refl;
   adds_true = refl;
@@ -39,6 +41,7 @@ clash = record {
   memory = tt;
   name_fits = refl;
   name_fits_not = refl;
+  none_clashes = record { one = refl; two = refl };
   brings_about = refl;
 }
 

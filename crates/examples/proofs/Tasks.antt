@@ -1,10 +1,11 @@
 -- Loading, by computing.
-use Rattle.std.proofs.Common.{refl, arith}
-use Rattle.adl.specs.Reads.{task, formula, effect, consequent}
+use Rattle.std.proofs.Common.{refl, ap, arith}
+use Rattle.adl.specs.Reads.{task, formula, effect, consequent, operator_places}
+use Rattle.adl.specs.Loads.{task_of}
 use Rattle.adl_theorems.proofs.Sound.{what_loads_was_written}
 use Rattle.worked.proofs.Cases.{come_out}
 use Rattle.worked.specs.Tables.{task_table}
-use Rattle.examples.specs.Loading.{LoadingByExample, TasksInNoTable}
+use Rattle.examples.specs.Loading.{LoadingByExample, PartsByExample, TasksInNoTable}
 
 pub loading : LoadingByExample
 unfolding task formula effect consequent
@@ -23,6 +24,18 @@ loading = record {
   too_many_atoms = refl;
   atoms_enough = refl;
   written = λ c. what_loads_was_written (task_table c).sizes (task_table c).kinds (task_table c).operands (come_out c).loads;
+}
+
+pub parts : PartsByExample
+unfolding task formula effect consequent operator_places
+parts = record {
+  stands = refl;
+  stands_not = refl;
+  argument = refl;
+  goal = refl;
+  operators = refl;
+  places = refl;
+  held_task = λ t same. ap task_of same;
 }
 
 pub in_no_table : TasksInNoTable

@@ -1,13 +1,17 @@
 -- What calls of a run come to where something is amiss, and what was played.
-use Rattle.std.specs.Prelude.{◌≡◌, ℕ, true, false, List, [], ◌∷◌, Ok, Err}
+use Rattle.std.specs.Prelude.{◌≡◌, ℕ, ◌+◌, true, false, List, [], ◌∷◌, Ok, Err}
 use Rattle.fault.specs.declared.Layer.TheVariants.{Run}
 use Rattle.fault.specs.Faults.{refusal}
 use Rattle.model.specs.Trees.{Task}
-use Rattle.model.specs.Meaning.{State, is_fact}
+use Rattle.model.specs.Meaning.{State, empty, is_fact}
 use Rattle.model.specs.Books.{Book}
 use Rattle.model.specs.Worked.{name}
 use Rattle.store.specs.Sets.{none}
-use Rattle.protocol.specs.Machines.{Played, answers, unbegun}
+use Rattle.protocol.specs.Junctions.{joining}
+use Rattle.protocol.specs.Names.{name_of}
+use Rattle.protocol.specs.declared.name.Name.{Name}
+use Rattle.protocol.specs.declared.junction.Junction.TheVariants.{All, Any}
+use Rattle.protocol.specs.Machines.{begun, Performed, Played, answers, unbegun}
 use Rattle.protocol.specs.TaskCalls.{task_machine}
 use Rattle.protocol.specs.BookCalls.{book_machine}
 use Rattle.protocol.specs.declared.calls.Answer.{Answer}
@@ -31,6 +35,18 @@ cells = the_task CellPainted
 abbrev pub its_book : Book
 its_book = the_book CellPainted
 
+-- the steps of a run that was begun, or the refusal; AND and OR of nothing; a name
+pub record AnswersByExample : Type 0 where
+  pub steps : begun (λ (n : ℕ). n + 1) (Ok 4) ≡ Ok 5
+  pub no_steps : begun (λ (n : ℕ). n + 1) (Err (refusal 21 Run 4)) ≡ Err (refusal 21 Run 4)
+  pub all_of_none : empty (joining All) ≡ true
+  pub any_of_none : empty (joining Any) ≡ false
+  pub names : (m : Name) → m.operator ≡ 2 → m.objects.now ≡ 1 ∷ [] → name_of m ≡ name 2 (1 ∷ [])
+
+-- a step from the facts on, with these objects
+abbrev pub performed : List ℕ → Performed
+performed os = (task_machine cells 4).performs 0 (is_fact cells) four (name 0 os)
+
 pub record CallsByExample : Type 0 where
   -- before begin, and after an end, there is no run
   pub no_run : (s : State) → answers (task_machine cells 4) (unbegun s four) (Goal ∷ Begin ∷ End ∷ Holds 0 ∷ []) ≡ NoRun ∷ Done ∷ Count 0 ∷ NoRun ∷ []
@@ -47,6 +63,12 @@ pub record CallsByExample : Type 0 where
   pub last_in_book : ((book_machine its_book 1).performs 65534 none four (name 0 (0 ∷ []))).answer ≡ Ok tt
   pub no_more : (s : State) → ((task_machine cells 4).performs 65535 s four (name 0 (0 ∷ []))).answer ≡ Err (refusal 26 Run 65535)
   pub no_more_in_book : (s : State) → ((book_machine its_book 1).performs 65535 s four (name 0 (0 ∷ []))).answer ≡ Err (refusal 26 Run 65535)
+  -- a step fills the image with the facts before it; so does one whose precondition is false, and one whose name does not fit leaves it
+  pub stepped : (performed (0 ∷ [])).set 0 ≡ true
+  pub counts : (performed (0 ∷ [])).steps ≡ 1
+  pub filled : (performed (0 ∷ [])).image ≡ 0 ∷ 0 ∷ 1 ∷ 0 ∷ []
+  pub filled_so : (performed (1 ∷ [])).image ≡ 0 ∷ 0 ∷ 1 ∷ 0 ∷ []
+  pub left : (performed (2 ∷ [])).image ≡ four
   -- two calls were played: the first two of three answers are theirs
   pub played : (s : State) → Played (task_machine cells 4) (unbegun s four) (Begin ∷ Holds 2 ∷ []) (NoRun ∷ NoRun ∷ NoRun ∷ []) (is_fact cells) four (Done ∷ Told true ∷ NoRun ∷ [])
   pub played_not : (s : State) → Played (task_machine cells 4) (unbegun s four) (Begin ∷ Holds 2 ∷ []) (NoRun ∷ NoRun ∷ NoRun ∷ []) (is_fact cells) four (Done ∷ Told false ∷ NoRun ∷ []) → ⊥

@@ -1,5 +1,5 @@
 -- Kinds and places of a table, powers, and entries as they are read.
-use Rattle.std.specs.Prelude.{◌≡◌, true, false, [], ◌∷◌, Ok, Err}
+use Rattle.std.specs.Prelude.{◌≡◌, ℕ, true, false, List, [], ◌∷◌, Ok, Err}
 use Rattle.fault.specs.declared.Layer.TheVariants.{Task, Book}
 use Rattle.fault.specs.Faults.{refusal}
 use Rattle.table.specs.Kinds.{code_of}
@@ -7,7 +7,8 @@ use Rattle.table.specs.Permits.{permitted}
 use Rattle.table.specs.Powers.{right}
 use Rattle.table.specs.Reading.{entry, bad, good}
 use Rattle.table.specs.Answers.{heading, lengths_fit, whether}
-use Rattle.table.specs.Entries.{first, all_coded}
+use Rattle.table.specs.Entries.{first, all_coded, Holds}
+use Rattle.table.specs.declared.arrays.Entries.{Entries}
 use Rattle.table.specs.declared.kind.Kind.TheVariants as kind
 use Rattle.table.specs.declared.places.Place.TheVariants as place
 
@@ -23,6 +24,9 @@ pub record EntriesByExample : Type 0 where
   pub at_first : first 2 (14 ∷ 2 ∷ []) (3 ∷ 0 ∷ []) place.TypeSet 0 ≡ good (entry 14 3) 1
   pub at_second : first 2 (14 ∷ 2 ∷ []) (3 ∷ 0 ∷ []) place.TypeSet 1 ≡ bad 3 1
   pub at_third : first 2 (14 ∷ 2 ∷ []) (3 ∷ 0 ∷ []) place.TypeSet 2 ≡ bad 4 2
+  -- a value that holds one entry, and not two
+  pub held : (e : Entries) → e.count ≡ 1 → e.kinds.now ≡ 14 ∷ [] → e.operands.now ≡ 3 ∷ [] → Holds 1 (14 ∷ []) (3 ∷ []) e
+  pub held_not : (e : Entries) (ks os : List ℕ) → e.count ≡ 1 → Holds 2 ks os e → ⊥
   -- as the code answers it
   pub read : heading Task (good (entry 14 3) 1) ≡ Ok (entry 14 3)
   pub refused : heading Book (bad 3 1) ≡ Err (refusal 3 Book 1)

@@ -4,8 +4,7 @@ use Rattle.fault.specs.declared.Layer.TheVariants.{Run}
 use Rattle.fault.specs.Faults.{refusal}
 use Rattle.model.specs.Trees.{Task, variable, all, atom, equal, negation, junction, implication, quantifier, none, more, outcome, outcomes, no_outcome, also, change, conjunction, for_each, when, no_effect, and, atoms}
 use Rattle.model.specs.Meaning.{State, step, is_fact}
-use Rattle.model.specs.Settling.{Ground, fact, negated, group, nil, cons}
-use Rattle.model.specs.Settling as settled
+use Rattle.model.specs.Settling.{fact, negated, group, nil, cons}
 use Rattle.model.specs.Books as tree
 use Rattle.model.specs.Books.{Book, Action, plain}
 use Rattle.model.specs.Runs.{Call, begin, goal, perform, end}
@@ -20,7 +19,7 @@ use Rattle.book_theorems.specs.Theorems as of_books
 use Rattle.instantiate.specs.Outcome.{instantiates, book_entries, literals_needed, kinds_of, operands_of}
 use Rattle.protocol.specs.Machines.{unbegun, answers}
 use Rattle.protocol.specs.TaskCalls.{task_machine}
-use Rattle.protocol.specs.BookCalls.{facts, book_machine}
+use Rattle.protocol.specs.BookCalls.{book_machine}
 use Rattle.protocol.specs.declared.calls.Answer.{Answer}
 use Rattle.protocol.specs.declared.calls.Answer.TheVariants.{Done, Told, Count, Refused}
 use Rattle.protocol.specs.declared.calls.Call as code

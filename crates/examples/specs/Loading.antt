@@ -1,15 +1,22 @@
 -- Loading: a table for each number that it refuses with, what a table that loads is, and tasks that are in no table.
-use Rattle.std.specs.Prelude.{◌≡◌, ℕ, true, [], ◌∷◌, Ok, Err}
+use Rattle.std.specs.Prelude.{◌≡◌, ℕ, false, true, [], ◌∷◌, Ok, Err}
 use Rattle.fault.specs.declared.Layer.TheVariants as layer
 use Rattle.fault.specs.Faults.{refusal}
 use Rattle.table.specs.Answers.{Answer}
 use Rattle.model.specs.Trees.{Task, constant, atom, Operator}
 use Rattle.model.specs.Forming.{WellFormed}
 use Rattle.model.specs.Meaning.{nothing}
-use Rattle.adl.specs.Loads.{loads}
+use Rattle.adl.specs.Held.{held, tree_of}
+use Rattle.adl.specs.Kept.{places_from}
+use Rattle.adl.specs.Loads.{loads, given, accepted}
+use Rattle.adl.specs.Reads.{goal_place, operator_places}
+use Rattle.adl.specs.Tables.{Table, arity}
+use Rattle.adl.specs.declared.task.Task.{Task as Record}
 use Rattle.adl_theorems.specs.Writes.{WithinLimits}
 use Rattle.adl_theorems.specs.Theorems.{WasWritten}
 use Rattle.worked.specs.declared.case.Case.{Case}
+use Rattle.worked.specs.ComingOut.{the_task}
+use Rattle.worked.specs.declared.case.Case.TheVariants.{CellPainted}
 use Rattle.worked.specs.Tables.{task_sizes, task_table}
 
 -- a task that is refused so
@@ -40,6 +47,22 @@ pub record LoadingByExample : Type 0 where
   pub atoms_enough : loads (task_sizes 32 0 2 0 0 3) (15 ∷ 15 ∷ 0 ∷ []) (3 ∷ 3 ∷ 0 ∷ []) ≡ Ok tt
   -- each worked task is written in its table, well formed and within the limits
   pub written : (c : Case) → WasWritten (task_table c).sizes (task_table c).kinds (task_table c).operands
+
+-- where the parts of a task begin in its table: of two cells, one of which can be painted
+abbrev pub cells_table : Table
+cells_table = given (task_table CellPainted).sizes (task_table CellPainted).kinds (task_table CellPainted).operands
+
+pub record PartsByExample : Type 0 where
+  -- a task stands in it, and none in a table whose one entry is NOT
+  pub stands : accepted cells_table ≡ true
+  pub stands_not : accepted (given (task_sizes 1 0 0 0 0 1) (4 ∷ []) (0 ∷ [])) ≡ false
+  -- its second predicate has one argument; its goal begins at 5, its operator at 7, and that operator's effect at 16
+  pub argument : arity cells_table 1 ≡ 1
+  pub goal : goal_place cells_table ≡ 5
+  pub operators : operator_places cells_table ≡ 7 ∷ []
+  pub places : places_from cells_table 7 ≡ record { start = 7; effect = 16 }
+  -- a record that holds it
+  pub held_task : (t : Record) → held t ≡ cells_table → tree_of t ≡ the_task CellPainted
 
 -- a task without objects; one whose operator has five parameters; one whose goal is an atom of a predicate that there is not
 abbrev pub without_objects : Task

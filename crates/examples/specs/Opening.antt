@@ -1,10 +1,15 @@
 -- Opening: a table for each number that it refuses with, what a table that opens is, and finding actions.
-use Rattle.std.specs.Prelude.{◌≡◌, ℕ, List, [], ◌∷◌, ◌++◌, replicate, Some, None, Ok, Err}
+use Rattle.std.specs.Prelude.{◌≡◌, ℕ, true, List, [], ◌∷◌, ◌++◌, replicate, Some, None, Ok, Err}
 use Rattle.fault.specs.declared.Layer.TheVariants as layer
 use Rattle.fault.specs.Faults.{refusal}
 use Rattle.table.specs.Answers.{Answer}
 use Rattle.model.specs.Worked.{name}
-use Rattle.book.specs.Opens.{opens, given}
+use Rattle.book.specs.Groups.{Rises}
+use Rattle.book.specs.Held.{held, tree_of}
+use Rattle.book.specs.Opens.{opens, given, accepted}
+use Rattle.book.specs.Reads.{actions_place}
+use Rattle.book.specs.Tables.{Table}
+use Rattle.book.specs.declared.book.Book.{Book as Record}
 use Rattle.book.specs.Finds.{number_from, Tells, action_place, fact_of}
 use Rattle.book_theorems.specs.Theorems.{WasWritten}
 use Rattle.worked.specs.declared.case.Case.{Case}
@@ -45,6 +50,9 @@ pub record OpeningByExample : Type 0 where
   -- the book of each worked task is written in its table, well formed and within the limits
   pub written : (c : Case) → WasWritten (book_table c).sizes (book_table c).kinds (book_table c).operands
 
+abbrev pub twice_table : Table
+twice_table = given (book_table ObjectTwice).sizes (book_table ObjectTwice).kinds (book_table ObjectTwice).operands
+
 -- of the actions of objects 0, 1 and of objects 1, 0
 pub record FindingByExample : Type 0 where
   -- the second has the name 1, 0; none has the name 1, 1
@@ -54,8 +62,14 @@ pub record FindingByExample : Type 0 where
   pub not_first : Tells (Some 0) (the_book ObjectTwice).actions (name 0 (1 ∷ 0 ∷ [])) → ⊥
   pub tells_none : Tells None (the_book ObjectTwice).actions (name 0 (1 ∷ 1 ∷ []))
   pub not_none : Tells None (the_book ObjectTwice).actions (name 0 (1 ∷ 0 ∷ [])) → ⊥
-  -- it begins at 6
-  pub place : action_place (given (book_table ObjectTwice).sizes (book_table ObjectTwice).kinds (book_table ObjectTwice).operands) 1 ≡ 6
+  -- a book stands in its table, the actions begin at 1, and the second at 6; a record that holds the table
+  pub stands : accepted twice_table ≡ true
+  pub begin : actions_place twice_table ≡ 1
+  pub place : action_place twice_table 1 ≡ 6
+  pub held_book : (b : Record) → held b ≡ twice_table → tree_of b ≡ the_book ObjectTwice
   -- that atom 0 is painted is a fact, that atom 2 is true is none
   pub is_fact : fact_of (the_book CellPainted) 0 ≡ Some 0
   pub no_fact : fact_of (the_book CellPainted) 2 ≡ None
+  -- the atoms of a group rise
+  pub rise : Rises (0 ∷ 2 ∷ [])
+  pub rise_not : Rises (2 ∷ 2 ∷ []) → ⊥

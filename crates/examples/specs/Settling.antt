@@ -10,8 +10,8 @@ use Rattle.model.specs.Books.{action}
 use Rattle.model.specs.Worked.{name}
 use Rattle.rising.specs.declared.literal.Sign.TheVariants.{Adds}
 use Rattle.book_theorems.specs.Writes.{write_action, write_ground}
-use Rattle.book_of_task.specs.Becoming.{SameBecoming}
-use Rattle.book_of_task.specs.Clashes.{clashes, some_clashes}
+use Rattle.book_of_task.specs.Becoming.{SameBecoming, Alike}
+use Rattle.book_of_task.specs.Clashes.{clashes, some_clashes, NoneClashes}
 use Rattle.book_of_task.specs.Places.{clash_of}
 use Rattle.runs.specs.Chosen.{chosen, Unused}
 use Rattle.runs.specs.Clauses.{Explains, Appends}
@@ -47,6 +47,7 @@ pub record ClashesByExample : Type 0 where
   -- the facts of settled atoms do not matter, those of others do
   pub same : SameBecoming (first_open (λ k. k)) (first_open (λ k. 0))
   pub differ : SameBecoming (first_open (λ k. k)) (first_open (λ k. 1)) → ⊥
+  pub alike : Alike cells (first_open (λ k. k)) (first_open (λ k. 0))
   -- adding an atom that is always false clashes, and so does deleting one that is always true; on an open atom nothing does
   pub adds_false : clashes all_settled (on true 0) ≡ true
   pub deletes_true : clashes all_settled (on false 2) ≡ true
@@ -59,9 +60,10 @@ pub record ClashesByExample : Type 0 where
   pub explains : Explains (some 16) (Clash 16)
   pub explains_not : Explains none (Clash 16) → ⊥
   pub memory : Explains none NoMemory
-  -- its name fits, and it brings about one literal in the round that the book is made by; that of both cells does not fit
+  -- its name fits; it brings about one literal in the round that the book is made by, and none that clashes; that of both cells does not fit
   pub name_fits : fits cells (name 0 (0 ∷ [])) ≡ true
   pub name_fits_not : fits cells (name 0 (0 ∷ 1 ∷ [])) ≡ false
+  pub none_clashes : NoneClashes cells (name 0 (0 ∷ []))
   pub brings_about : reach cells (round_two cells) (name 0 (0 ∷ [])) ≡ on true 0 ∷ []
 
 pub record WritingByExample : Type 0 where

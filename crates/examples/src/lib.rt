@@ -5,10 +5,10 @@ ghost use Rattle.examples.specs.Refusals.{RefusalsByExample};
 ghost use Rattle.examples.specs.Entries.{EntriesByExample};
 ghost use Rattle.examples.specs.RisingLists.{RisingListsByExample};
 ghost use Rattle.examples.specs.Stores.{StoresByExample};
-ghost use Rattle.examples.specs.Loading.{LoadingByExample, TasksInNoTable};
+ghost use Rattle.examples.specs.Loading.{LoadingByExample, PartsByExample, TasksInNoTable};
 ghost use Rattle.examples.specs.Opening.{OpeningByExample, FindingByExample};
 ghost use Rattle.examples.specs.Settling.{ClashesByExample, WritingByExample};
-ghost use Rattle.examples.specs.Calling.{CallsByExample};
+ghost use Rattle.examples.specs.Calling.{AnswersByExample, CallsByExample};
 ghost use Rattle.examples.specs.Instantiating.{InstantiatingByExample};
 ghost use Rattle.examples.specs.Files.{FilesByExample};
 ghost use Rattle.examples.specs.Agreeing.{AgreeingByExample};
@@ -37,6 +37,7 @@ pub fn examples_of_stores()
 // Tables of tasks: what is refused, what loads, and what is in no table.
 pub fn examples_of_loading()
     ensures loads { LoadingByExample }
+    ensures parts { PartsByExample }
     ensures no_table { TasksInNoTable }
 {}
 
@@ -54,7 +55,8 @@ pub fn examples_of_settling()
 
 // Calls of a run where something is amiss.
 pub fn examples_of_calls()
-    ensures { CallsByExample }
+    ensures answers { AnswersByExample }
+    ensures calls { CallsByExample }
 {}
 
 // Instantiating with too few places, and with enough.

@@ -11,12 +11,18 @@ ghost use Rattle.instantiate.specs.Growing.{over};
 ghost use Rattle.instantiate.specs.Refusals.{no_memory};
 ghost use Rattle.model.specs.Books.{book as book_in};
 ghost use Rattle.files.specs.Converting.{HoldsBook, task_in_file, book_file, loads_file, opens_file, converts};
+ghost use Rattle.planning_c.specs.Examples.{OutcomesByExample};
 ghost use Rattle.planning_c.specs.Outcomes.{refused, written, checked, room_with, refusal_told, line_of, with_line};
 
 use line::put_line;
 pub use outcome::Outcome;
 use places::{book_opens, convert_to_book, task_loads};
 use std::alloc::Global;
+
+// What outcomes tell, by example; no call for C.
+pub fn examples_of_outcomes()
+    ensures { OutcomesByExample }
+{}
 
 // Converts the file of a task into the file of its book, at the front of the output, with so many places for each array that this takes.
 // On a refusal the output is as it was.
