@@ -27,6 +27,7 @@ all_kinds = record {
   on = refl;
   out = refl;
   cut = refl;
+  clash = refl;
   in_task = task_tells lamps story told_so (λ s. refl);
   in_book = book_tells lamps_book story told_so (λ s. refl);
 }

@@ -2,6 +2,7 @@
 use Rattle.std.proofs.Common.{◌≡◌, ℕ, true, false, [], ◌∷◌, length, length-append, refl, sym, ap, ◌∙◌, arith}
 use Rattle.model.specs.Lists.{below}
 use Rattle.model.specs.Books as tree
+use Rattle.model.specs.Meaning.{State}
 use Rattle.adl.specs.Loads as loading
 use Rattle.adl.specs.Reads.{task, formula, effect, consequent}
 use Rattle.book.specs.Opens as opening
@@ -40,6 +41,7 @@ agreeing = record {
   wrong_goal = λ h. told_apart h.0;
   wrong_atom = λ h. told_apart (sym h.0);
   wrong_count = λ h. counts_apart h.0;
+  wrong_store = λ f t. turned (ap (λ (s : State). s 2) t.left);
   no_name = refl;
   made = λ c t b p q. ap opening.book_of q ∙ (come_out c).stands ∙ sym (ap (λ x. tree.book (loading.task_of x)) p);
   answers = both_tell;

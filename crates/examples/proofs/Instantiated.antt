@@ -17,5 +17,6 @@ instantiating = record {
   operands_short = refl;
   nine_places = refl;
   list_first = refl;
+  clash = refl;
   front = refl;
 }

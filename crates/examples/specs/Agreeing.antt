@@ -3,6 +3,8 @@ use Rattle.std.specs.Prelude.{◌≡◌, ℕ, true, false, List, [], ◌∷◌}
 use Rattle.fault.specs.declared.Layer.TheVariants.{Run}
 use Rattle.fault.specs.Faults.{refusal}
 use Rattle.model.specs.Trees as tree
+use Rattle.model.specs.Meaning.{State}
+use Rattle.store.specs.Sets.{none}
 use Rattle.adl.specs.Held as loaded
 use Rattle.adl.specs.Loads as loading
 use Rattle.adl.specs.declared.task.Task.{Task}
@@ -11,7 +13,7 @@ use Rattle.book.specs.Opens as opening
 use Rattle.book.specs.declared.book.Book.{Book}
 use Rattle.protocol.specs.declared.calls.Answer.TheVariants.{Done, Told, Count, Refused}
 use Rattle.protocol.specs.declared.calls.Call.TheVariants.{Begin, Goal, Holds, End}
-use Rattle.agreement.specs.Agreement.{Alike, BeginsFirst, Room, in_book}
+use Rattle.agreement.specs.Agreement.{Alike, SameTruth, BeginsFirst, Room, in_book}
 use Rattle.agree.specs.Sides.{MadeFrom, AnswersAgree}
 use Rattle.worked.specs.declared.case.Case.{Case}
 use Rattle.worked.specs.declared.case.Case.TheVariants.{CellPainted}
@@ -34,6 +36,8 @@ pub record AgreeingByExample : Type 0 where
   pub wrong_goal : Alike cells [] Goal (Told true) (Told true) → ⊥
   pub wrong_atom : Alike cells [] (Holds 2) (Told false) (Told false) → ⊥
   pub wrong_count : Alike cells [] End (Count 1) (Count 1) → ⊥
+  -- an empty store does not hold the facts
+  pub wrong_store : (f : State) → SameTruth cells 4 1 [] none f → ⊥
   -- where a task's run answers 23, its book's run answers 24
   pub no_name : in_book 5 (Refused (refusal 23 Run 0)) ≡ Refused (refusal 24 Run 5)
   -- a record that holds a worked task's table, and one that holds its book's

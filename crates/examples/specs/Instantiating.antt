@@ -5,7 +5,8 @@ use Rattle.fault.specs.Faults.{refusal}
 use Rattle.model.specs.Meaning.{Literal}
 use Rattle.instantiate.specs.Growing.{over}
 use Rattle.instantiate.specs.Listing.{different}
-use Rattle.instantiate.specs.Outcome.{instantiates, literals_needed}
+use Rattle.instantiate.specs.Outcome.{instantiates, literals_needed, unless_clash}
+use Rattle.std.proofs.Math.Option.{some}
 use Rattle.worked.specs.declared.case.Case.TheVariants.{CellPainted, DeletedAndAdded}
 use Rattle.worked.specs.Tables.{book_table}
 use Rattle.worked.specs.ComingOut.{the_task}
@@ -30,5 +31,7 @@ pub record InstantiatingByExample : Type 0 where
   pub nine_places : instantiates (the_task CellPainted) 1 9 9 ≡ Ok (book_table CellPainted).sizes
   -- a list that is too short is told first
   pub list_first : instantiates (the_task CellPainted) 0 8 8 ≡ Err (refusal 12 Book 0)
+  -- a clash is told by its place
+  pub clash : unless_clash (some 16) (Ok (book_table CellPainted).sizes) ≡ Err (refusal 13 Book 16)
   -- what stands at the front of an array
   pub front : over (1 ∷ 2 ∷ []) (7 ∷ 7 ∷ 7 ∷ []) ≡ 1 ∷ 2 ∷ 7 ∷ []

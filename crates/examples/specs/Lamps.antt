@@ -1,9 +1,10 @@
 -- A task with the kinds of formulas and effects that no worked task has: IMPLY, the equality of terms, FORALL over objects, WHEN, and facts that can change.
-use Rattle.std.specs.Prelude.{◌≡◌, ℕ, ◌≤◌, Bool, true, false, List, [], ◌∷◌, map, length, Ok}
+use Rattle.std.specs.Prelude.{◌≡◌, ℕ, ◌≤◌, Bool, true, false, List, [], ◌∷◌, map, length, Ok, cond, ◌==◌}
 use Rattle.fault.specs.declared.Layer.TheVariants.{Run}
 use Rattle.fault.specs.Faults.{refusal}
 use Rattle.model.specs.Trees.{Task, variable, all, atom, equal, negation, junction, implication, quantifier, none, more, outcome, outcomes, no_outcome, also, change, conjunction, for_each, when, no_effect, and, atoms}
 use Rattle.model.specs.Meaning.{State, step, is_fact}
+use Rattle.model.specs.Settling as settled
 use Rattle.model.specs.Settling.{fact, negated, group, nil, cons}
 use Rattle.model.specs.Books as tree
 use Rattle.model.specs.Books.{Book, Action, plain}
@@ -17,6 +18,8 @@ use Rattle.book.specs.Opens as opening
 use Rattle.book.specs.declared.sizes.Sizes as book
 use Rattle.book_theorems.specs.Theorems as of_books
 use Rattle.instantiate.specs.Outcome.{instantiates, book_entries, literals_needed, kinds_of, operands_of}
+use Rattle.std.proofs.Math.Option.{some}
+use Rattle.book_of_task.specs.Places.{clash_of}
 use Rattle.protocol.specs.Machines.{unbegun, answers}
 use Rattle.protocol.specs.TaskCalls.{task_machine}
 use Rattle.protocol.specs.BookCalls.{book_machine}
@@ -96,6 +99,10 @@ story = begin ∷ perform (name 0 (1 ∷ [])) ∷ perform (name 0 (0 ∷ [])) �
 abbrev pub told_so : List Answer
 told_so = Done ∷ Refused (refusal 24 Run 0) ∷ Done ∷ Done ∷ Told false ∷ Count 2 ∷ []
 
+-- atom 2, the power, is always true, and the lamps can change
+abbrev pub power_on : settled.Round
+power_on = record { verdict = λ k. cond (k == 2) (settled.always true) settled.unsettled; fact_of = λ k. k }
+
 pub record LampsByExample : Type 0 where
   -- the table loads, and that task stands in it; its book is as written down, opens, and stands in its table
   pub loads : loading.loads lamps_table.sizes lamps_table.kinds lamps_table.operands ≡ Ok tt
@@ -114,6 +121,8 @@ pub record LampsByExample : Type 0 where
   pub on : step lamps (name 0 (0 ∷ [])) (is_fact lamps) 0 ≡ true
   pub out : step lamps (name 0 (0 ∷ [])) (is_fact lamps) 1 ≡ false
   pub cut : step lamps (name 0 (0 ∷ [])) (is_fact lamps) 2 ≡ false
+  -- were the power always on, cutting it would clash; that literal begins at 32 in the table, in the second part of what the WHEN brings about
+  pub clash : clash_of lamps power_on (name 0 (0 ∷ [])) ≡ some 32
   -- both runs answer alike
   pub in_task : (size : ℕ) (s : State) (im : List ℕ) → 3 ≤ size → 3 ≤ length im
       → (cs : List code.Call) → map call_of cs ≡ story → answers (task_machine lamps size) (unbegun s im) cs ≡ told_so
