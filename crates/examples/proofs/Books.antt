@@ -69,6 +69,7 @@ finding = record {
   begin = refl;
   place = refl;
   held_book = λ b same. ap book_of same;
+  blank_book = refl;
   is_fact = refl;
   no_fact = refl;
   rise = rise;

@@ -41,6 +41,8 @@ calls = record {
   filled = refl;
   filled_so = refl;
   left = refl;
+  in_book = refl;
+  no_action = refl;
   played = λ s. record { set_is = refl; image_is = refl; answered = refl; rest = refl };
   played_not = λ s p. truths_differ (ap (λ xs. slice_index_or xs 1 NoRun) p.answered);
   beyond = λ s p. no_run_is_done (ap (λ xs. slice_index_or xs 0 NoRun) p.rest);

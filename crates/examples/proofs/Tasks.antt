@@ -31,6 +31,7 @@ unfolding task formula effect consequent operator_places
 parts = record {
   stands = refl;
   stands_not = refl;
+  blank_task = refl;
   argument = refl;
   goal = refl;
   operators = refl;

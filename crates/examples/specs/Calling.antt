@@ -69,6 +69,9 @@ pub record CallsByExample : Type 0 where
   pub filled : (performed (0 ∷ [])).image ≡ 0 ∷ 0 ∷ 1 ∷ 0 ∷ []
   pub filled_so : (performed (1 ∷ [])).image ≡ 0 ∷ 0 ∷ 1 ∷ 0 ∷ []
   pub left : (performed (2 ∷ [])).image ≡ four
+  -- the book's image has one byte to fill, also where it has no such action
+  pub in_book : ((book_machine its_book 1).performs 0 none (7 ∷ 7 ∷ []) (name 0 (0 ∷ []))).image ≡ 0 ∷ 7 ∷ []
+  pub no_action : ((book_machine its_book 1).performs 0 none (7 ∷ 7 ∷ []) (name 0 (1 ∷ []))).image ≡ 0 ∷ 7 ∷ []
   -- two calls were played: the first two of three answers are theirs
   pub played : (s : State) → Played (task_machine cells 4) (unbegun s four) (Begin ∷ Holds 2 ∷ []) (NoRun ∷ NoRun ∷ NoRun ∷ []) (is_fact cells) four (Done ∷ Told true ∷ NoRun ∷ [])
   pub played_not : (s : State) → Played (task_machine cells 4) (unbegun s four) (Begin ∷ Holds 2 ∷ []) (NoRun ∷ NoRun ∷ NoRun ∷ []) (is_fact cells) four (Done ∷ Told false ∷ NoRun ∷ []) → ⊥

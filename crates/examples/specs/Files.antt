@@ -3,7 +3,7 @@ use Rattle.std.specs.Prelude.{◌≡◌, ℕ, ◌^◌, List, [], ◌∷◌, Ok, 
 use Rattle.fault.specs.declared.Layer.TheVariants.{Task, Book, File}
 use Rattle.fault.specs.Faults.{refusal}
 use Rattle.model.specs.Books as tree
-use Rattle.files.specs.Formats.{number, laid_out, reads}
+use Rattle.files.specs.Formats.{number, laid_out, numbers, kinds_told, operands_told, reads}
 use Rattle.files.specs.Converting.{HoldsBook, converts, loads_file, opens_file, read_into, Room}
 use Rattle.files.specs.Theorems.{FourBytes, Bytes, Tells}
 use Rattle.worked.specs.declared.case.Case.TheVariants.{GoalTrue, CellPainted}
@@ -24,9 +24,10 @@ pub record FilesByExample : Type 0 where
   pub lays_out : laid_out (9 ∷ 2 ∷ []) (14 ∷ 5 ∷ []) (513 ∷ 2147483648 ∷ []) ≡ small_file
   pub tells : Tells (9 ∷ 2 ∷ []) (14 ∷ 5 ∷ []) (513 ∷ 2147483648 ∷ []) small_file
   pub tells_not : Tells (9 ∷ 2 ∷ []) (14 ∷ 5 ∷ []) (513 ∷ 0 ∷ []) small_file → ⊥
+  pub again : laid_out (numbers 2 small_file) (kinds_told 2 small_file) (operands_told 2 small_file) ≡ small_file
   pub in_four_bytes : FourBytes (513 ∷ 2147483648 ∷ [])
   pub too_large : FourBytes (2 ^ 32 ∷ []) → ⊥
-  pub are_bytes : Bytes (9 ∷ 255 ∷ [])
+  pub are_bytes : Bytes small_file
   pub no_bytes : Bytes (9 ∷ 256 ∷ []) → ⊥
   -- 9: one byte is no file; a file with a byte after it
   pub one_byte : reads 6 (7 ∷ []) 9 9 ≡ Err (refusal 9 File 1)

@@ -8,7 +8,7 @@ use Rattle.model.specs.Forming.{WellFormed}
 use Rattle.model.specs.Meaning.{nothing}
 use Rattle.adl.specs.Held.{held, tree_of}
 use Rattle.adl.specs.Kept.{places_from}
-use Rattle.adl.specs.Loads.{loads, given, accepted}
+use Rattle.adl.specs.Loads.{loads, given, accepted, blank}
 use Rattle.adl.specs.Reads.{goal_place, operator_places}
 use Rattle.adl.specs.Tables.{Table, arity}
 use Rattle.adl.specs.declared.task.Task.{Task as Record}
@@ -16,7 +16,7 @@ use Rattle.adl_theorems.specs.Writes.{WithinLimits}
 use Rattle.adl_theorems.specs.Theorems.{WasWritten}
 use Rattle.worked.specs.declared.case.Case.{Case}
 use Rattle.worked.specs.ComingOut.{the_task}
-use Rattle.worked.specs.declared.case.Case.TheVariants.{CellPainted}
+use Rattle.worked.specs.declared.case.Case.TheVariants.{CellPainted, GoalTrue}
 use Rattle.worked.specs.Tables.{task_sizes, task_table}
 
 -- a task that is refused so
@@ -56,6 +56,8 @@ pub record PartsByExample : Type 0 where
   -- a task stands in it, and none in a table whose one entry is NOT
   pub stands : accepted cells_table ≡ true
   pub stands_not : accepted (given (task_sizes 1 0 0 0 0 1) (4 ∷ []) (0 ∷ [])) ≡ false
+  -- where none does, one object and the goal TRUE are taken to stand
+  pub blank_task : the_task GoalTrue ≡ blank
   -- its second predicate has one argument; its goal begins at 5, its operator at 7, and that operator's effect at 16
   pub argument : arity cells_table 1 ≡ 1
   pub goal : goal_place cells_table ≡ 5

@@ -6,14 +6,14 @@ use Rattle.table.specs.Answers.{Answer}
 use Rattle.model.specs.Worked.{name}
 use Rattle.book.specs.Groups.{Rises}
 use Rattle.book.specs.Held.{held, tree_of}
-use Rattle.book.specs.Opens.{opens, given, accepted}
+use Rattle.book.specs.Opens.{opens, given, accepted, blank}
 use Rattle.book.specs.Reads.{actions_place}
 use Rattle.book.specs.Tables.{Table}
 use Rattle.book.specs.declared.book.Book.{Book as Record}
 use Rattle.book.specs.Finds.{number_from, Tells, action_place, fact_of}
 use Rattle.book_theorems.specs.Theorems.{WasWritten}
 use Rattle.worked.specs.declared.case.Case.{Case}
-use Rattle.worked.specs.declared.case.Case.TheVariants.{CellPainted, ObjectTwice}
+use Rattle.worked.specs.declared.case.Case.TheVariants.{CellPainted, GoalTrue, ObjectTwice}
 use Rattle.worked.specs.Tables.{book_sizes, book_table}
 use Rattle.worked.specs.ComingOut.{the_book}
 
@@ -67,6 +67,8 @@ pub record FindingByExample : Type 0 where
   pub begin : actions_place twice_table ≡ 1
   pub place : action_place twice_table 1 ≡ 6
   pub held_book : (b : Record) → held b ≡ twice_table → tree_of b ≡ the_book ObjectTwice
+  -- where no book stands, the goal TRUE alone is taken to stand
+  pub blank_book : the_book GoalTrue ≡ blank
   -- that atom 0 is painted is a fact, that atom 2 is true is none
   pub is_fact : fact_of (the_book CellPainted) 0 ≡ Some 0
   pub no_fact : fact_of (the_book CellPainted) 2 ≡ None
