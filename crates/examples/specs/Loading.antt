@@ -1,5 +1,5 @@
 -- Loading: a table for each number that it refuses with, what a table that loads is, and tasks that are in no table.
-use Rattle.std.specs.Prelude.{◌≡◌, ℕ, false, true, [], ◌∷◌, Ok, Err}
+use Rattle.std.specs.Prelude.{◌≡◌, ℕ, false, true, [], ◌∷◌, replicate, Ok, Err}
 use Rattle.fault.specs.declared.Layer.TheVariants as layer
 use Rattle.fault.specs.Faults.{refusal}
 use Rattle.table.specs.Answers.{Answer}
@@ -42,6 +42,9 @@ pub record LoadingByExample : Type 0 where
   -- 6: four quantifiers inside one another; three may be
   pub too_deep : loads (task_sizes 1 1 0 0 0 6) (14 ∷ 8 ∷ 8 ∷ 8 ∷ 8 ∷ 0 ∷ []) (1 ∷ 0 ∷ 0 ∷ 0 ∷ 0 ∷ 0 ∷ []) ≡ refused 6 4
   pub deep_enough : loads (task_sizes 1 1 0 0 0 5) (14 ∷ 8 ∷ 8 ∷ 8 ∷ 0 ∷ []) (1 ∷ 0 ∷ 0 ∷ 0 ∷ 0 ∷ []) ≡ Ok tt
+  -- and a formula of 257 entries; 256 may be
+  pub too_long : loads (task_sizes 1 0 0 0 0 257) (5 ∷ replicate 256 0) (256 ∷ replicate 256 0) ≡ refused 6 256
+  pub short_enough : loads (task_sizes 1 0 0 0 0 256) (5 ∷ replicate 255 0) (255 ∷ replicate 255 0) ≡ Ok tt
   -- 7: 32 objects have 32,768 atoms of a predicate with three arguments; two such predicates may be, and no other beside them
   pub too_many_atoms : loads (task_sizes 32 0 3 0 0 4) (15 ∷ 15 ∷ 15 ∷ 0 ∷ []) (3 ∷ 3 ∷ 0 ∷ 0 ∷ []) ≡ refused 7 2
   pub atoms_enough : loads (task_sizes 32 0 2 0 0 3) (15 ∷ 15 ∷ 0 ∷ []) (3 ∷ 3 ∷ 0 ∷ []) ≡ Ok tt
