@@ -1,9 +1,11 @@
-ghost use Rattle.std.specs.Prelude.{◌≤◌};
+ghost use Rattle.std.specs.Prelude.{◌≤◌, ◌<◌};
+ghost use Rattle.std.proofs.Common.{rules};
 
 use adl::{Sizes, Task};
 use fault::{Cause, Fault, Layer};
 use std::array;
-use store::{Bits, ListStore, Store};
+use std::cmp::Ordering;
+use store::{Bits, Full, Key, ListStore, Rising, Store};
 use table::Kind;
 use trials::Arrays;
 
@@ -231,4 +233,46 @@ fn both_stores(rt: HostRuntime) {
     let held = array::from_fn(|k| [0, 1, 3, 8, 15, 16].contains(&k));
     assert_eq!(rt; driven(&mut bits), (held, 2));
     assert_eq!(rt; driven(&mut list), (held, 2));
+}
+
+// A number as a key whose order is its own, the larger one first: its type has no order besides.
+#[derive(Clone, Copy)]
+struct Falling(u32);
+
+impl Key for Falling {
+    ghost before = { λ x y. y.0 < x.0 };
+
+    ghost never = { Prim.search rules };
+
+    ghost chain = { Prim.search rules };
+
+    fn order(&self, other: &Falling) -> Ordering {
+        other.0.cmp(&self.0)
+    }
+}
+
+// The number at a place of a list of such keys.
+fn number_at(list: &Rising<Falling>, place: usize) -> Option<u32> {
+    match list.at(place) {
+        Some(key) => Some(key.0),
+        None => None,
+    }
+}
+
+// 5, 2 and 9 stand as 9, 5, 2; a fourth key finds no place, and 5 is at place 1.
+#[test]
+fn keys_with_an_order_of_their_own(rt: HostRuntime) {
+    let mut slots = [Falling(0); 3];
+    let mut list = Rising::over(&mut slots);
+    assert_eq!(rt; list.insert(Falling(5)), Ok(true));
+    assert_eq!(rt; list.insert(Falling(2)), Ok(true));
+    assert_eq!(rt; list.insert(Falling(9)), Ok(true));
+    assert_eq!(rt; list.insert(Falling(9)), Ok(false));
+    assert_eq!(rt; list.insert(Falling(7)), Err(Full));
+    assert_eq!(rt; number_at(&list, 0), Some(9));
+    assert_eq!(rt; number_at(&list, 2), Some(2));
+    assert_eq!(rt; list.find(&Falling(5)), Ok(1));
+    assert_eq!(rt; list.find(&Falling(7)), Err(1));
+    assert_eq!(rt; list.remove(&Falling(9)), true);
+    assert_eq!(rt; list.find(&Falling(5)), Ok(0));
 }

@@ -1,14 +1,9 @@
 -- What holds of rising lists.
-use Rattle.std.proofs.Common.{◌≡◌, ℕ, ◌+◌, ◌-◌, ◌<◌, ◌≤◌, min, ◌≢◌, ◌↔◌, List, length, get_or, take, set, sym, ap, ◌∙◌, subst, inl, inr, ⊎_elim, arith, length-take, Ordering, Less, Equal, Result, Ok, Err, MatchResult}
-use Rattle.std.specs.Cmp.{IsTotalOrder}
-use Rattle.std.specs.Ordering.{is_lt, ordering_reverse}
-use Rattle.std.specs.List.Sorted.{IsSortedBy, IsSearchInRange, IsBinarySearchResult}
-use Rattle.std.proofs.lemmas.List.Sorted.{searchable_from_sorted}
-use Rattle.std.proofs.lemmas.Cmp.{tied_itself}
+use Rattle.std.proofs.Common.{◌≡◌, ℕ, ◌+◌, ◌-◌, ◌<◌, ◌≤◌, min, ◌≢◌, List, length, get_or, take, set, sym, ap, ◌∙◌, subst, inl, inr, ⊎_elim, arith, length-take}
 use Rattle.std.specs.List.{ContainsAt as Has}
 use Rattle.std.proofs.lemmas.List.{get_or-take, get_or_default, get_or-set_same, get_or-set_other, length-set}
 use Rattle.std.proofs.lemmas.Bool.{cases_eq, cases_lt}
-use Rattle.rising.specs.Ascent.{Rises, Gap, Spot, With, Without}
+use Rattle.rising.specs.Ascent.{Rises, Below, Above, Gap, Spot, With, Without}
 
 -- a key of the list is what its place holds, at whichever default
 pub item_at : {K : Type 0} (xs : List K) (n m : ℕ) (e : K) → m < length (take n xs) → (d : K) → get_or (take n xs) m d ≡ get_or xs m e
@@ -17,6 +12,29 @@ item_at xs n m e lt d =
     let a : m < n = omega arith in
     let b : m < length xs = omega arith in
     get_or-take n xs m d a ∙ get_or_default xs m d e b
+
+-- what a place of the list holds stands there
+pub spot_at : {K : Type 0} (xs : List K) (m : ℕ) (x : K) → m < length xs → x ≡ get_or xs m x → Spot xs x m
+spot_at xs m x lt is = record { within = lt; is = λ d. get_or_default xs m d x lt ∙ sym is }
+
+module _ {K : Type 0} (L : K → K → Type 0) (chain : (x y z : K) → L x y → L y z → L x z) where
+  -- the search goes on to the right
+  pub below_more : (xs : List K) (k x : K) (m : ℕ) → Rises L xs → Spot xs x m → L x k → Below L xs k (m + 1)
+  below_more xs k x m up spot less j d h =
+      let at : L (get_or xs m d) k = subst (λ y. L y k) (sym (spot.is d)) less in
+      ⊎_elim
+      (λ e. subst (λ i. L (get_or xs i d) k) (sym e) at)
+      (λ ne. chain _ _ _ (up j m d (omega (arith, ne)) spot.within) at)
+      (cases_eq j m)
+
+  -- the search goes on to the left
+  pub above_more : (xs : List K) (k x : K) (m : ℕ) → Rises L xs → Spot xs x m → L k x → Above L xs k m
+  above_more xs k x m up spot more j d le in_it =
+      let at : L k (get_or xs m d) = subst (λ y. L k y) (sym (spot.is d)) more in
+      ⊎_elim
+      (λ e. subst (λ i. L k (get_or xs i d)) (sym e) at)
+      (λ ne. chain _ _ _ at (up m j d (omega (arith, ne)) in_it))
+      (cases_eq j m)
 
 -- what a copy inside the places leaves: zs has at `dest` and above what xs has from `from` on, below `to`
 abbrev pub Moved : {K : Type 0} → List K → List K → ℕ → ℕ → ℕ → Type 0
@@ -135,32 +153,7 @@ module _ {K : Type 0} (L : K → K → Type 0) where
       (cases_lt i at)))
       (cases_lt j at)
 
-module _ {K : Type 0} {L : K → K → Type 0} {cmp : K → K → Ordering} (total : IsTotalOrder cmp) (less : (x y : K) → L x y ↔ (cmp x y ≡ Less)) where
-  -- no key comes before itself
-  pub never : (x : K) → L x x → ⊥
-  never x h = let a = (less x x).0 h in let b = tied_itself total x in cc
-
-  -- what comes before a key comes before all that it comes before
-  pub chain : (x y z : K) → L x y → L y z → L x z
-  chain x y z h k = (less x z).1 (total.trans x y z ((less x y).0 h) ((less y z).0 k))
-
-  -- a list that rises is sorted
-  sorted : (xs : List K) → Rises L xs → IsSortedBy (λ x y. is_lt (cmp x y)) xs
-  sorted xs up k d low h =
-      let e = (less _ _).0 (up k (k + 1) d (omega arith) h) in
-      ap is_lt (total.antisymm (get_or xs (k + 1) d) (get_or xs k d)) ∙ ap (λ o. is_lt (ordering_reverse o)) e
-
-  -- what the library's search says of a list that rises, where only the same key is equal
-  pub found_by_search : ((x y : K) → cmp x y ≡ Equal → x ≡ y) → (xs : List K) (k : K) (r : Result ℕ ℕ) → IsSearchInRange r (length xs) → IsBinarySearchResult (λ y. cmp y k) xs r → Rises L xs → MatchResult r (Spot xs k) (Gap L xs k)
-  found_by_search same xs k (Ok i) inside at up = record { within = inside; is = λ d. same _ k (at d) }
-  found_by_search same xs k (Err i) inside split up =
-      let point = split (searchable_from_sorted total (λ y. y) xs k (sorted xs up)) in
-      record {
-        within = inside;
-        below = λ j d h. (less _ k).1 (point.0 j d (omega arith) h);
-        above = λ j d le h. (less k _).1 (total.antisymm k _ ∙ ap ordering_reverse (point.1 j d le h));
-      }
-
+module _ {K : Type 0} (L : K → K → Type 0) (never : (x : K) → L x x → ⊥) where
   -- a key with a gap is in no place
   pub gap_missing : (xs : List K) (k : K) (at : ℕ) → Gap L xs k at → Has xs k → ⊥
   gap_missing xs k at gap (i, lt, is) =

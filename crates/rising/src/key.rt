@@ -1,24 +1,34 @@
 // Keys with a total order.
-ghost use Rattle.std.specs.Prelude.{◌≡◌, ◌<◌, ◌↔◌};
-ghost use Rattle.std.specs.declared.cmp.Ordering.TheVariants.{Less, Equal};
+ghost use Rattle.std.specs.Prelude.{◌≡◌, ◌<◌};
+ghost use Rattle.std.specs.Ordering.{MatchOrdering};
 ghost use Rattle.std.proofs.Common.{rules};
 
-pub trait Key: Ord + Copy {
+use std::cmp::Ordering;
+
+pub trait Key: Copy {
     // the one key comes before the other
     ghost before: { Self → Self → Type 0 };
 
-    // it does exactly where it is less
-    ghost before_is_less: { (x y : Self) → before x y ↔ (Self.cmp x y ≡ Less) };
+    // Which of the two comes first: equal keys are the same key.
+    fn order(&self, other: &Self) -> Ordering
+        ensures { MatchOrdering result (before self.now other.now) (self.now ≡ other.now) (before other.now self.now) };
 
-    // only the same key is equal
-    ghost equal_is_same: { (x y : Self) → Self.cmp x y ≡ Equal → x ≡ y };
+    // no key comes before itself
+    ghost never: { (x : Self) → before x x → ⊥ };
+
+    // what comes before a key comes before all that it comes before
+    ghost chain: { (x y z : Self) → before x y → before y z → before x z };
 }
 
 // Numbers, the smaller one first.
 impl Key for u32 {
     ghost before = { ◌<◌ };
 
-    ghost before_is_less = { Prim.search rules };
+    ghost never = { Prim.search rules };
 
-    ghost equal_is_same = { Prim.search rules };
+    ghost chain = { Prim.search rules };
+
+    fn order(&self, other: &u32) -> Ordering {
+        self.cmp(other)
+    }
 }

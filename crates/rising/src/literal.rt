@@ -4,6 +4,7 @@ ghost use Rattle.rising.specs.Literals.{Before, is_adds};
 ghost use Rattle.std.proofs.Common.{rules};
 
 use crate::key::Key;
+use std::cmp::Ordering;
 
 // Whether an atom is added or deleted.
 #[derive(Clone, Copy, PartialEq, Eq, PartialOrd, Ord, Debug)]
@@ -31,7 +32,11 @@ pub struct Literal {
 impl Key for Literal {
     ghost before = { Before };
 
-    ghost before_is_less = { Prim.search rules };
+    ghost never = { Prim.search rules };
 
-    ghost equal_is_same = { Prim.search rules };
+    ghost chain = { Prim.search rules };
+
+    fn order(&self, other: &Literal) -> Ordering {
+        self.cmp(other)
+    }
 }

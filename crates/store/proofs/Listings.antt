@@ -1,5 +1,5 @@
 -- What holds of a set that is kept as a rising list.
-use Rattle.std.proofs.Common.{◌≡◌, ℕ, zero, suc, ◌+◌, ◌-◌, ◌<◌, ◌≤◌, Bool, true, false, eqb, List, length, get_or, is_ok, IsOk, Ok, Err, Decides, Result, sym, refl, ap, ◌∙◌, subst, ⊎_elim, arith, MatchResult, rules}
+use Rattle.std.proofs.Common.{◌≡◌, ℕ, zero, suc, ◌+◌, ◌-◌, ◌<◌, ◌≤◌, Bool, true, false, eqb, List, length, get_or, is_ok, IsOk, Ok, Err, Decides, Result, sym, refl, ap, ◌∙◌, subst, ⊎_elim, arith, MatchResult}
 use mathlib.Core.Path.{fun_ext}
 use Rattle.std.specs.List.{ContainsAt as Has}
 use Rattle.std.specs.List.Sorted.{IsStrictlyIncreasing}
@@ -11,7 +11,6 @@ use Rattle.rising.specs.Ascent.{Rises, Spot, Gap, With, Without, AfterInsert, Af
 use Rattle.store.specs.Members.{listed, Under}
 use Rattle.store.specs.Sets.{with_fact}
 use Rattle.rising.proofs.Ascents.{gap_missing}
-use Rattle.std.proofs.lemmas.Cmp.{nat_cmp_total}
 
 -- m places on, a member is greater by m or more
 far : (xs : List ℕ) → IsStrictlyIncreasing xs → (m i : ℕ) → i + m < length xs → get_or xs i 0 + m ≤ get_or xs (i + m) 0
@@ -110,7 +109,7 @@ under_without xs ys k n w under i h = under_has xs n _ under (w.only (get_or ys 
 -- the set has k where the list finds it
 pub find_listed : (xs : List ℕ) (k : ℕ) (r : Result ℕ ℕ) → MatchResult r (Spot xs k) (Gap ◌<◌ xs k) → is_ok r ≡ listed xs k
 find_listed xs k (Ok i) spot = sym (listed_is xs k (i, spot.within, spot.is))
-find_listed xs k (Err i) gap = sym (listed_not xs k (gap_missing nat_cmp_total (λ x y. search rules) xs k i gap))
+find_listed xs k (Err i) gap = sym (listed_not xs k (gap_missing ◌<◌ (λ x h. absurd (let bad : ⊥ = omega arith in bad)) xs k i gap))
 
 module _ (xs ys : List ℕ) (k n : ℕ) (climbs : IsStrictlyIncreasing xs) (under : Under n xs) where
   -- an insertion keeps the list rising and below n

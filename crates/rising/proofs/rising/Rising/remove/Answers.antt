@@ -4,7 +4,7 @@ use Rattle.rising.proofs.Ascents.{Deletion, gap_missing, deletion_from_moved, de
 use Rattle.rising.proofs.rising.Rising.remove.Goals as goal
 
 pub returns-in_default-clause-held : goal.returns-in_default-clause-held
-returns-in_default-clause-held g c = λ up. (gap_missing g.met.K.Ord.total g.met.K.Key.before_is_less (items c.args.self.now) _ _ (c.in_default.ensures.found up), refl)
+returns-in_default-clause-held g c = λ up. (gap_missing g.K.Key.before g.met.K.Key.never (items c.args.self.now) _ _ (c.in_default.ensures.found up), refl)
 
 pub returns-clause-held : goal.returns-clause-held
 returns-clause-held g c = λ up.
@@ -16,4 +16,4 @@ returns-clause-held g c = λ up.
     let lt : at < n = omega (arith, c.in-Ok.ensures.within, c.count-n.ensures) in
     let del : Deletion xs (take (n - 1) zs) at = deletion_from_moved slots zs c.args.self.now.len n at c.count-n.ensures c.copy_within.ensures.len lt c.copy_within.ensures.by_index in
     let spot = c.in-Ok.ensures.found up in
-    ((at, spot.within, spot.is), deleted_rises g.K.Key.before xs _ at up del, deleted_without g.met.K.Ord.total g.met.K.Key.before_is_less xs _ _ at up spot del, del.len)
+    ((at, spot.within, spot.is), deleted_rises g.K.Key.before xs _ at up del, deleted_without g.K.Key.before g.met.K.Key.never xs _ _ at up spot del, del.len)
