@@ -49,7 +49,8 @@ impl<'a> Entries<'a> {
         })
     }
 
-    // The entry at place `at`, if there is one and its kind may stand at such a place.
+    // The entry at place `at`, if there is one and its kind may stand at such a place. Inlined, so that each call tests for its own place alone.
+    #[inline(always)]
     pub fn head_at(&self, layer: Layer, place: Place, at: usize) -> Result<Head, Fault>
         ensures same { all_coded result ≡ heading layer (first self.now.count self.now.kinds.now self.now.operands.now place at) }
         ensures inside { OnOk result (at < self.now.count) }
