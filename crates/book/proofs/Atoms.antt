@@ -1,12 +1,8 @@
 -- Atoms in groups that rise.
 use Rattle.std.proofs.Common.{◌≡◌, ℕ, zero, suc, ◌+◌, ◌<◌, ◌≤◌, Bool, true, false, cond, not, ◌&&◌, ◌||◌, eqb, leb, List, [], ◌∷◌, length, get_or, take, drop, slice_get, Some, None, Ok, Err, Option, Result, sym, refl, ap, ◌∙◌, ⊎_elim, arith, eq-eqb, ne_eqb, le-leb}
 use borrow.Author.Tests.{lt-leb}
-use Rattle.std.specs.List.Sorted.{IsBinarySearchResult}
 use Rattle.std.specs.Option.{is_some, option_eq}
-use Rattle.std.specs.Ordering.{nat_cmp}
-use Rattle.std.specs.Result.{result_ok}
 use Rattle.std.proofs.lemmas.Bool.{and_left, and_right, and_from, or_left, or_right, or_from, cases_lt, cases_eq}
-use Rattle.std.proofs.lemmas.List.Sorted.{searched}
 use Rattle.fault.specs.declared.Fault.{Fault}
 use Rattle.fault.specs.declared.Layer.TheVariants as layer
 use Rattle.fault.specs.Faults.{refusal}
@@ -55,22 +51,15 @@ has_first (y ∷ ys) rise x h = ⊎_elim
     (λ n. ne_eqb y x n ∙ sym (has_nowhere (y ∷ ys) x (λ k l e. ⊎_elim (λ p. omega (arith, rise 0 k p l, h 0 (omega arith), e)) (λ z. let f : k ≡ 0 = omega arith in n (sym (ap (λ j. get_or (y ∷ ys) j 0) f) ∙ e)) (cases_lt 0 k))))
     (cases_eq y x)
 
--- a binary search for x in a list that rises
-found_at : (xs : List ℕ) → Rises xs → (x k : ℕ) → k < length xs → get_or xs k 0 ≡ x → Some k ≡ cond (has x xs) (Some (position x xs)) None
+-- a search for x in a list that rises
+pub found_at : (xs : List ℕ) → Rises xs → (x k : ℕ) → k < length xs → get_or xs k 0 ≡ x → Some k ≡ cond (has x xs) (Some (position x xs)) None
 found_at xs r x k h e =
     let p = position_at xs x k h e (λ j l q. omega (arith, r j k l h, e, q)) in
     ap Some (sym p) ∙ sym (ap (λ b. cond b (Some (position x xs)) None) (has_at xs x k h e))
 
-not_found : (xs : List ℕ) (x i : ℕ) → ((k : ℕ) → k < i → get_or xs k 0 < x) → ((k : ℕ) → i ≤ k → k < length xs → x < get_or xs k 0) → None ≡ cond (has x xs) (Some (position x xs)) None
+pub not_found : (xs : List ℕ) (x i : ℕ) → ((k : ℕ) → k < i → get_or xs k 0 < x) → ((k : ℕ) → i ≤ k → k < length xs → x < get_or xs k 0) → None ≡ cond (has x xs) (Some (position x xs)) None
 not_found xs x i below beyond =
     sym (ap (λ b. cond b (Some (position x xs)) None) (has_nowhere xs x (λ k l e. ⊎_elim (λ f. omega (arith, below k f, e)) (λ f. omega (arith, beyond k f l, e)) (cases_lt k i))))
-
-never_falls : (xs : List ℕ) → Rises xs → (i j : ℕ) → i ≤ j → j < length xs → get_or xs i 0 ≤ get_or xs j 0
-never_falls xs r i j l h = ⊎_elim (λ f. omega (arith, r i j f h)) (λ f. let z : i ≡ j = omega arith in omega (arith, ap (λ k. get_or xs k 0) z)) (cases_lt i j)
-
-pub place_found : (xs : List ℕ) → Rises xs → (x : ℕ) (r : Result ℕ ℕ) → IsBinarySearchResult (λ y. nat_cmp y x) xs r → result_ok r ≡ cond (has x xs) (Some (position x xs)) None
-place_found xs rise x (Ok k) h = let w = searched xs x (Ok k) h (never_falls xs rise) in found_at xs rise x k w.0 w.1
-place_found xs rise x (Err k) h = let w = searched xs x (Err k) h (never_falls xs rise) in not_found xs x k w.1 w.2
 
 -- whether the search has found it
 has_place : (b : Bool) (k : ℕ) → b ≡ is_some (cond b (Some k) None)

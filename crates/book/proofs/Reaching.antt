@@ -1,5 +1,5 @@
 -- Whatever is read well goes on from where it began and ends inside the table.
-use Rattle.std.proofs.Common.{◌≡◌, ℕ, zero, suc, ◌+◌, ◌-◌, ◌<◌, ◌≤◌, Bool, true, false, cond, ◌||◌, eqb, ltb, leb, List, [], ◌∷◌, get_or, refl, arith}
+use Rattle.std.proofs.Common.{◌≡◌, ℕ, zero, suc, ◌+◌, ◌-◌, ◌<◌, ◌≤◌, Bool, true, false, cond, not, ◌&&◌, ◌||◌, eqb, ltb, leb, List, [], ◌∷◌, get_or, refl, arith}
 use Rattle.std.proofs.lemmas.Bool.{ltb-true, and_parts}
 use Rattle.table.specs.declared.places.Place.{Place}
 use Rattle.table.specs.declared.places.Place.TheVariants as place
@@ -10,7 +10,7 @@ use Rattle.model.specs.Meaning.{Literal}
 use Rattle.model.specs.Settling.{Ground, negated, group}
 use Rattle.model.specs.Books.{plain, when, Start}
 use Rattle.book.specs.Tables.{Table, entry_at, most_levels, most_names, most_objects, in_range, head}
-use Rattle.book.specs.Reads.{start, junction_of, grounds_of, leaf, ground_by, ground, literal_by, literal, literals, clause_by, clause, effect, is_object, objects, precedes, name, action}
+use Rattle.book.specs.Reads.{start, is_listed, always_true, junction_of, grounds_of, leaf, ground_by, ground, literal_by, literal, literals, clause_by, clause, effect, is_object, objects, precedes, name, action}
 
 -- it is refused, or ends at place i or later, and inside the table
 abbrev pub Reaches : {A : Type 0} → Table → ℕ → Out A → Type 0
@@ -73,6 +73,11 @@ module _ (t : Table) where
   reaches_start low i =
       after_head place.Relevant most_levels i (λ e j. unless (leb low e.operand) 8 i (good (record { atom = e.operand; starts = eqb e.kind 19 }) j))
       (λ e j l h. reaches_unless {A = Start} (i + 1) (leb low e.operand) 8 i (good (record { atom = e.operand; starts = eqb e.kind 19 }) j) (λ _. (l, h)))
+
+  pub reaches_always : (low i : ℕ) → Reaches t (i + 1) (always_true t low i)
+  reaches_always low i =
+      after_head place.Always most_levels i (λ e j. unless (leb low e.operand && not (is_listed t e.operand)) 8 i (good e.operand j))
+      (λ e j l h. reaches_unless (i + 1) (leb low e.operand && not (is_listed t e.operand)) 8 i (good e.operand j) (λ _. (l, h)))
 
   -- Formulas.
   reaches_ground_by : (read : ℕ → Out Ground) → ((i : ℕ) → Reaches t (i + 1) (read i)) → (e : Entry) (j : ℕ) → j ≤ t.entries → Reaches t j (ground_by read e j)
