@@ -14,14 +14,13 @@ use protocol::{Junction, shows};
 use table::Kind;
 
 impl Scene<'_> {
-    // The value of the formula at place `at`, where `levels` levels are left, and the place after it. The scene comes by value: behind a reference
-    // each entry took longer to judge.
+    // The value of the formula at place `at`, where `levels` levels are left, and the place after it.
     #[cycle(judge_judge_group)]
     #[tactic(auto, using(crate::proofs::Standing::formulas))]
-    pub(crate) fn judge(self, levels: u32, at: usize) -> (bool, usize)
-        requires { is_good (ground (table_in self) levels at) ≡ true }
-        ensures value { result.0 ≡ value_in (state_in self.entry) (ground (table_in self.entry) levels at) }
-        ensures end { result.1 ≡ next_place (ground (table_in self.entry) levels at) }
+    pub(crate) fn judge(&self, levels: u32, at: usize) -> (bool, usize)
+        requires { is_good (ground (table_in self.now) levels at) ≡ true }
+        ensures value { result.0 ≡ value_in (state_in self.now) (ground (table_in self.now) levels at) }
+        ensures end { result.1 ≡ next_place (ground (table_in self.now) levels at) }
     {
         let table = self.table;
         let operand = table.entries.operands[at];
@@ -39,11 +38,13 @@ impl Scene<'_> {
     }
 
     // Whether all of `count` formulas from place `at` on are true, or any; and the place after them.
+    // Not inlined: `judge` would then save, for each single entry too, the registers that the loop needs.
+    #[inline(never)]
     #[cycle(judge_judge_group)]
-    fn judge_group(self, junction: Junction, levels: u32, at: usize, count: u32) -> (bool, usize)
-        requires { is_good (many (ground (table_in self) levels) count at) ≡ true }
-        ensures value { result.0 ≡ values_in (state_in self.entry) (joining junction) (many (ground (table_in self.entry) levels) count at) }
-        ensures end { result.1 ≡ next_place (many (ground (table_in self.entry) levels) count at) }
+    fn judge_group(&self, junction: Junction, levels: u32, at: usize, count: u32) -> (bool, usize)
+        requires { is_good (many (ground (table_in self.now) levels) count at) ≡ true }
+        ensures value { result.0 ≡ values_in (state_in self.now) (joining junction) (many (ground (table_in self.now) levels) count at) }
+        ensures end { result.1 ≡ next_place (many (ground (table_in self.now) levels) count at) }
     {
         let undecided = junction.of_none();
         let mut next = at;

@@ -15,14 +15,14 @@ judge-judge_group-requires-in-Or t c = (grind (arith, deep), or_stands _ _ _ c.r
 pub judge-returns-in-And : goal.judge-returns-in-And
 judge-returns-in-And t c =
     record {
-      value = c.judge_group.ensures.value ∙ and_values _ _ _ c.requires c.in-And.ensures (state_in c.args.self);
+      value = c.judge_group.ensures.value ∙ and_values _ _ _ c.requires c.in-And.ensures (state_in c.args.self.now);
       end = c.judge_group.ensures.end ∙ and_ends _ _ _ c.requires c.in-And.ensures;
     }
 
 pub judge-returns-in-Or : goal.judge-returns-in-Or
 judge-returns-in-Or t c =
     record {
-      value = c.judge_group-in-Or.ensures.value ∙ or_values _ _ _ c.requires c.in-Or.ensures (state_in c.args.self);
+      value = c.judge_group-in-Or.ensures.value ∙ or_values _ _ _ c.requires c.in-Or.ensures (state_in c.args.self.now);
       end = c.judge_group-in-Or.ensures.end ∙ or_ends _ _ _ c.requires c.in-Or.ensures;
     }
 
@@ -30,14 +30,14 @@ pub judge-returns-in_default : goal.judge-returns-in_default
 judge-returns-in_default t c =
     let h = c.in_default in
     record {
-      value = false_value _ _ _ c.requires (state_in c.args.self) _ c.kind_at.ensures h.not-True h.not-Fact h.not-Not h.not-And h.not-Or;
+      value = false_value _ _ _ c.requires (state_in c.args.self.now) _ c.kind_at.ensures h.not-True h.not-Fact h.not-Not h.not-And h.not-Or;
       end = single_ends _ _ _ c.requires _ c.kind_at.ensures h.not-Not h.not-And h.not-Or;
     }
 
 pub judge_group-loop-left-preserved : goal.judge_group-loop-left-preserved
 judge_group-loop-left-preserved t c =
-    let s = state_in c.args.self in
-    let read = ground (table_in c.args.self) c.args.levels in
+    let s = state_in c.args.self.now in
+    let read = ground (table_in c.args.self.now) c.args.levels in
     let f = first read c.loop-left.left c.loop-left.next c.judge-part.result.1 (omega arith) c.judge-part.ensures.end c.loop-left.invariant.stand in
     record {
       stand = f.others;
